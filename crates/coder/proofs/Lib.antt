@@ -1,0 +1,4 @@
+pub mod Nearest
+pub mod Coded
+pub mod Cost
+pub mod Register

@@ -1,0 +1,4 @@
+pub mod Coder
+pub mod Cost
+pub mod Nearest
+pub mod Register

@@ -1,0 +1,4 @@
+pub mod Machine
+pub mod Tail
+pub mod Numbered
+pub mod Spread
