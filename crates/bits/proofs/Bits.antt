@@ -3,13 +3,13 @@
 use mathlib.Core.Bool.{Bool, true, false}
 use mathlib.Core.List.{List, [], _∷_, _++_, map, append-assoc}
 use mathlib.Core.Path.{_≡_, refl, ap, sym, _∙_}
-use Prim.Native.Nat.{ℕ, zero, suc, _+_, _-_, _*_, _/_, _%_, _^_, _≤_, _<_}
+use Prim.Native.Nat.{ℕ, zero, suc, _+_, _-_, _*_, _/_, _%_, _^_, _<_}
 use native.Mathlib.Nat.{add-assoc, add-mul, mul-assoc, suc-sub-suc, sub-zero, pow-succ', mod-eq-of-lt, mod-lt, mod-one}
 use native.Mathlib.Numerals.{one-add}
 use native.Mathlib.Omega.{arith}
 use lib.ListN.{length, getD, length-append}
 use lib.Arith.{digits-lt}
-use lib.Pow.{pow-add, pow-pos, field, mod-mod-pow, mod-pow-add, high, low}
+use lib.Pow.{pow-add, field, mod-mod-pow, mod-pow-add, high, low}
 use Rattle.bits.specs.Bits.{bit, isOne, bitsOf, bitsOfBytes, numberOf}
 
 -- a bit and the byte that carries it
@@ -60,8 +60,8 @@ unfolding bitsOf
 length-bitsOf zero x = refl
 length-bitsOf (suc k) x = ap suc (length-bitsOf k x)
 
-bitsOf-suc-number : (k x : ℕ) → numberOf (bitsOf k x) ≡ x % 2 ^ k → numberOf (bitsOf (suc k) x) ≡ x % 2 ^ suc k
-bitsOf-suc-number k x ih =
+numberOf-bitsOf-suc : (k x : ℕ) → numberOf (bitsOf k x) ≡ x % 2 ^ k → numberOf (bitsOf (suc k) x) ≡ x % 2 ^ suc k
+numberOf-bitsOf-suc k x ih =
     let h : x / 2 ^ k % 2 < 2 = mod-lt (x / 2 ^ k) (omega arith) in
     rw (bitsOf-suc, numberOf-cons, length-bitsOf, ih, bit-isOne (x / 2 ^ k % 2)) (rw one-add at (sym (mod-pow-add x 1 k)))
 
@@ -69,7 +69,7 @@ bitsOf-suc-number k x ih =
 pub numberOf-bitsOf-mod : (k x : ℕ) → numberOf (bitsOf k x) ≡ x % 2 ^ k
 unfolding bitsOf numberOf
 numberOf-bitsOf-mod zero x = sym (mod-one x)
-numberOf-bitsOf-mod (suc k) x = bitsOf-suc-number k x (numberOf-bitsOf-mod k x)
+numberOf-bitsOf-mod (suc k) x = numberOf-bitsOf-suc k x (numberOf-bitsOf-mod k x)
 
 pub numberOf-bitsOf : (k x : ℕ) → x < 2 ^ k → numberOf (bitsOf k x) ≡ x
 numberOf-bitsOf k x h = numberOf-bitsOf-mod k x ∙ mod-eq-of-lt h
@@ -139,5 +139,7 @@ bitsOfBytes-injective [] (y ∷ ys) hx hy e = absurd (omega (arith, simp (length
 bitsOfBytes-injective (x ∷ xs) [] hx hy e = absurd (omega (arith, simp (length-append, length-bitsOf) at (ap length e)))
 bitsOfBytes-injective (x ∷ xs) (y ∷ ys) hx hy e =
     let same = append-injective (bitsOf 8 x) (bitsOf 8 y) (length-bitsOf 8 x ∙ sym (length-bitsOf 8 y)) e in
-    cc (bitsOf-injective 8 (hx 0 (omega arith)) (hy 0 (omega arith)) (same .0),
-    bitsOfBytes-injective xs ys (λ i h. hx (suc i) (omega arith)) (λ i h. hy (suc i) (omega arith)) (same .1))
+    cc (
+      bitsOf-injective 8 (hx 0 (omega arith)) (hy 0 (omega arith)) (same .0),
+      bitsOfBytes-injective xs ys (λ i h. hx (suc i) (omega arith)) (λ i h. hy (suc i) (omega arith)) (same .1),
+    )

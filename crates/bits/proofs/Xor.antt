@@ -32,5 +32,5 @@ xor-false true = refl
 xor-false false = refl
 
 -- the same bit added twice
-pub xor-xor-cancel : (a b : Bool) → xor (xor a b) b ≡ a
-xor-xor-cancel a b = xor-assoc a b b ∙ ap (λ (c : Bool). xor a c) (xor-self b) ∙ xor-false a
+pub xor-self-cancel : (a b : Bool) → xor (xor a b) b ≡ a
+xor-self-cancel a b = xor-assoc a b b ∙ ap (λ (c : Bool). xor a c) (xor-self b) ∙ xor-false a

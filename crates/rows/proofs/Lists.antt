@@ -1,0 +1,47 @@
+-- A list made of the first values of a function, read at a place; stores into a list, one after the other.
+-- Assumes nothing.
+use mathlib.Core.List.{List, [], _∷_, _++_}
+use mathlib.Core.Logic.{⊎-elim}
+use mathlib.Core.Path.{_≡_, refl, sym, ap, subst, _∙_}
+use Prim.Native.Nat.{ℕ, zero, suc, _+_, _<_}
+use native.Mathlib.Nat.{eq-or-lt-of-le, le-of-suc-le-suc, not-suc-le-zero}
+use native.Mathlib.Omega.{arith}
+use borrow.Author.Count.{below-more}
+use lib.ListN.{length, getD, set, length-append, List·getD-append}
+use lib.Seq.{getD-at, getD-set-same, getD-set-other}
+use Rattle.rows.specs.Rows.{firsts}
+
+pub length-firsts : (n : ℕ) (f : ℕ → ℕ) → length (firsts n f) ≡ n
+unfolding firsts
+length-firsts zero f = refl
+length-firsts (suc n) f = omega (arith, length-append (firsts n f) (f n ∷ []), length-firsts n f)
+
+pub getD-firsts : (n : ℕ) (f : ℕ → ℕ) (k : ℕ) → k < n → getD (firsts n f) k 0 ≡ f k
+unfolding firsts
+getD-firsts zero f k h = absurd (not-suc-le-zero h)
+getD-firsts (suc n) f k h =
+    ⊎-elim
+    (λ e. rw e (getD-at (firsts n f) (f n) [] 0 n (length-firsts n f)))
+    (λ l. List·getD-append (firsts n f) (f n ∷ []) 0 k (omega (arith, length-firsts n f)) ∙ getD-firsts n f k l)
+    (eq-or-lt-of-le (le-of-suc-le-suc h))
+
+-- stores of f 0, f 1, .. at the places g 0, g 1, ..: one more
+pub set-grows :
+  (l : List ℕ) (g f : ℕ → ℕ) (j v : ℕ)
+    → g j < length l
+    → ((k : ℕ) → k < j → g k ≡ g j → ⊥)
+    → ((k : ℕ) → k < j → getD l (g k) 0 ≡ f k)
+    → v ≡ f j
+    → (k : ℕ) → k < j + 1 → getD (set l (g j) v) (g k) 0 ≡ f k
+set-grows l g f j v h apart old new =
+    below-more (λ (k : ℕ). getD (set l (g j) v) (g k) 0 ≡ f k) j
+    (λ k b. getD-set-other l (g j) (g k) v 0 (apart k b) ∙ old k b)
+    (getD-set-same l (g j) v 0 h ∙ new)
+
+-- and a store elsewhere
+pub set-keeps :
+  (l : List ℕ) (g f : ℕ → ℕ) (i v n : ℕ)
+    → ((k : ℕ) → k < n → g k ≡ i → ⊥)
+    → ((k : ℕ) → k < n → getD l (g k) 0 ≡ f k)
+    → (k : ℕ) → k < n → getD (set l i v) (g k) 0 ≡ f k
+set-keeps l g f i v n apart old k b = getD-set-other l i (g k) v 0 (apart k b) ∙ old k b

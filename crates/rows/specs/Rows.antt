@@ -1,0 +1,108 @@
+-- What the steps of the search do with their rows, in plain numbers. Nothing here has to be believed: it is what the functions of this crate say to their callers.
+-- Assumes nothing.
+use mathlib.Core.Bool.{Bool, true, false, cond}
+use mathlib.Core.List.{List, [], _∷_, _++_}
+use mathlib.Core.Path.{_≡_}
+use Prim.Native.Nat.{ℕ, zero, suc, _+_, _-_, _*_, _%_, _≤_, _<_, min}
+use lib.Dec.{ltb}
+use lib.ListN.{length, getD}
+use Rattle.bits.specs.Bits.{bit}
+use Rattle.coder.specs.Coder.{uplinkWords}
+use Rattle.coder.specs.Cost.{against}
+use Rattle.trellis.specs.Numbered.{price}
+
+-- f 0, f 1, .. f (n - 1)
+unfoldable pub firsts : ℕ → (ℕ → ℕ) → List ℕ
+firsts zero f = []
+firsts (suc n) f = firsts n f ++ (f n ∷ [])
+
+-- what the value v has against the coded bit b
+pub record Opposes (b : Bool) (v r : ℕ) : Type 0 where
+  pub is : r ≡ against b v
+  pub most : r ≤ 128
+
+-- six amounts: what each of three values has against 0 and against 1
+pub record Six (a0 a1 b0 b1 c0 c1 : ℕ) : Type 0 where
+  pub first : (a0 ≤ 128) × (a1 ≤ 128)
+  pub second : (b0 ≤ 128) × (b1 ≤ 128)
+  pub third : (c0 ≤ 128) × (c1 ≤ 128)
+
+-- the sum for three coded bits
+abbrev pub sumOf : (a0 a1 b0 b1 c0 c1 : ℕ) → Bool → Bool → Bool → ℕ
+sumOf a0 a1 b0 b1 c0 c1 x y z = cond x a1 a0 + cond y b1 b0 + cond z c1 c0
+
+-- the sums for the 32 even states taking 0, s for the sum of three coded bits (`weighs-arranged` of proofs/Weighs.antt: they are what 001's words give)
+abbrev pub arrangement : (Bool → Bool → Bool → ℕ) → List ℕ
+arrangement s =
+    s false false false ∷ s false true true ∷ s true false true ∷ s true true false ∷
+    s true false true ∷ s true true false ∷ s false false false ∷ s false true true ∷
+    s false true true ∷ s false false false ∷ s true true false ∷ s true false true ∷
+    s true true false ∷ s true false true ∷ s false true true ∷ s false false false ∷
+    s true false false ∷ s true true true ∷ s false false true ∷ s false true false ∷
+    s false false true ∷ s false true false ∷ s true false false ∷ s true true true ∷
+    s true true true ∷ s true false false ∷ s false true false ∷ s false false true ∷
+    s false true false ∷ s false false true ∷ s true true true ∷ s true false false ∷ []
+
+pub record Arranged (a0 a1 b0 b1 c0 c1 : ℕ) (pairs : List ℕ) (all : ℕ) : Type 0 where
+  pub pairsAre : pairs ≡ arrangement (sumOf a0 a1 b0 b1 c0 c1)
+  pub allIs : all ≡ sumOf a0 a1 b0 b1 c0 c1 false false false + sumOf a0 a1 b0 b1 c0 c1 true true true
+
+-- the costs of a step for 32 pairs of states and the weight of its three values, as numbers of 16 bits
+pub record Small (pairs : List ℕ) (all : ℕ) : Type 0 where
+  pub sized : length pairs ≡ 32
+  pub most : all ≤ 384
+  pub within : (j : ℕ) → j < 32 → getD pairs j 0 ≤ all
+
+-- each of 001's words selects the newest and the oldest bit, so that a step costs one sum or what is left of the whole
+pub record Weighs (values pairs : List ℕ) (all : ℕ) : Type 0 where
+  pub small : Small pairs all
+  pub even0 : (j : ℕ) → j < 32 → price uplinkWords values false (2 * j) ≡ getD pairs j 0
+  pub even1 : (j : ℕ) → j < 32 → price uplinkWords values true (2 * j) ≡ all - getD pairs j 0
+  pub odd0 : (j : ℕ) → j < 32 → price uplinkWords values false (2 * j + 1) ≡ all - getD pairs j 0
+  pub odd1 : (j : ℕ) → j < 32 → price uplinkWords values true (2 * j + 1) ≡ getD pairs j 0
+
+-- a row that a step can be added to within 15 bits
+pub record Low (row : List ℕ) : Type 0 where
+  pub sized : length row ≡ 64
+  pub under : (s : ℕ) → s < 64 → getD row s 0 ≤ 32000
+
+-- the costs of both moves of the states 2j and 2j + 1, for the first n pairs
+pub record Summed (n : ℕ) (row pairs : List ℕ) (all : ℕ) (even0s even1s odd0s odd1s : List ℕ) : Type 0 where
+  pub sizes : (length even0s ≡ 32) × (length even1s ≡ 32) × (length odd0s ≡ 32) × (length odd1s ≡ 32)
+  pub even0 : (j : ℕ) → j < n → getD even0s j 0 ≡ getD row j 0 + getD pairs j 0
+  pub even1 : (j : ℕ) → j < n → getD even1s j 0 ≡ getD row (j + 32) 0 + (all - getD pairs j 0)
+  pub odd0 : (j : ℕ) → j < n → getD odd0s j 0 ≡ getD row j 0 + (all - getD pairs j 0)
+  pub odd1 : (j : ℕ) → j < n → getD odd1s j 0 ≡ getD row (j + 32) 0 + getD pairs j 0
+
+-- costs within 15 bits
+pub record Within (even0s even1s odd0s odd1s : List ℕ) : Type 0 where
+  pub even : (j : ℕ) → j < 32 → (getD even1s j 0 ≤ 32767) × (getD even0s j 0 ≤ 32767)
+  pub odd : (j : ℕ) → j < 32 → (getD odd1s j 0 ≤ 32767) × (getD odd0s j 0 ≤ 32767)
+
+-- the cheaper of the two moves of each state of the first n pairs
+pub record Least (n : ℕ) (even0s even1s odd0s odd1s next : List ℕ) : Type 0 where
+  pub sized : length next ≡ 64
+  pub even : (j : ℕ) → j < n → getD next (2 * j) 0 ≡ min (getD even0s j 0) (getD even1s j 0)
+  pub odd : (j : ℕ) → j < n → getD next (2 * j + 1) 0 ≡ min (getD odd0s j 0) (getD odd1s j 0)
+
+-- for the first n pairs, one more decision in the lowest bit of each byte, 1 where taking 1 is cheaper: the even states in the first 32 bytes, the odd ones in the others
+pub record Chosen (n : ℕ) (even0s even1s odd0s odd1s old next : List ℕ) : Type 0 where
+  pub sized : length next ≡ 64
+  pub even : (j : ℕ) → j < n → getD next j 0 ≡ 2 * (getD old j 0 % 128) + bit (ltb (getD even1s j 0) (getD even0s j 0))
+  pub odd : (j : ℕ) → j < n → getD next (j + 32) 0 ≡ 2 * (getD old (j + 32) 0 % 128) + bit (ltb (getD odd1s j 0) (getD odd0s j 0))
+
+-- no cost of a row is less than what is to be taken off
+pub record AtLeast (row : List ℕ) (by : ℕ) : Type 0 where
+  pub each : (s : ℕ) → s < 64 → by ≤ getD row s 0
+
+-- the same taken off the first n costs of a row
+pub record Lowered (n : ℕ) (row : List ℕ) (by : ℕ) (next : List ℕ) : Type 0 where
+  pub sized : length next ≡ 64
+  pub each : (s : ℕ) → s < n → getD next s 0 ≡ getD row s 0 - by
+
+-- the first n of 64 bytes stored from a place on
+pub record Stored (n : ℕ) (old : List ℕ) (place : ℕ) (bytes new : List ℕ) : Type 0 where
+  pub sized : length new ≡ length old
+  pub inside : (k : ℕ) → k < n → getD new (place + k) 0 ≡ getD bytes k 0
+  pub below : (i : ℕ) → i < place → getD new i 0 ≡ getD old i 0
+  pub above : (i : ℕ) → place + n ≤ i → getD new i 0 ≡ getD old i 0

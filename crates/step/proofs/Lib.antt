@@ -1,0 +1,1 @@
+-- The proofs of this crate's functions cite the laws of `rows`.

@@ -1,0 +1,224 @@
+// One step of the search, on rows of 64 costs passed and returned by value: the costs at one moment from those at the next, and what each state would take.
+// Each function says only what it does with the numbers it is given; that the rows are remaining costs is shown above, in `search`.
+ghost use mathlib.Core.Bool.{true, false};
+ghost use mathlib.Core.List.{[], _∷_};
+ghost use mathlib.Core.Path.{_≡_};
+ghost use Prim.Native.Nat.{_+_, _≤_, min};
+ghost use lib.Dec.{ltb};
+ghost use lib.ListN.{length};
+ghost use Rattle.bits.specs.Bits.{bit};
+ghost use Rattle.rows.specs.Rows.{Opposes, Six, Arranged, Weighs, Small, Low, Summed, Within, Least, Chosen, AtLeast, Lowered, Stored};
+
+// What a value has against a coded bit that is 0.
+fn against_zero(v: u8) -> u16
+    ensures { λ r. ⌜ Opposes false v r ⌝ }
+{
+    if v < 128 { v as u16 } else { 0 }
+}
+
+// What a value has against a coded bit that is 1.
+fn against_one(v: u8) -> u16
+    ensures { λ r. ⌜ Opposes true v r ⌝ }
+{
+    if v < 128 { 0 } else { 256 - (v as u16) }
+}
+
+// What a step costs: for each pair of states that of taking 0 in the even one, and the weight of all three values.
+pub struct Weighed {
+    pub pairs: [u16; 32],
+    pub all: u16,
+}
+
+// The eight sums of a step where 001's words put them. Each bit of a name is the coded bit of one word.
+fn arranged(a0: u16, a1: u16, b0: u16, b1: u16, c0: u16, c1: u16) -> Weighed
+    requires { ⌜ Six a0 a1 b0 b1 c0 c1 ⌝ }
+    ensures { λ r. ⌜ Arranged a0 a1 b0 b1 c0 c1 (r .pairs) (r .all) ⌝ }
+{
+    let s000 = a0 + b0 + c0;
+    let s001 = a0 + b0 + c1;
+    let s010 = a0 + b1 + c0;
+    let s011 = a0 + b1 + c1;
+    let s100 = a1 + b0 + c0;
+    let s101 = a1 + b0 + c1;
+    let s110 = a1 + b1 + c0;
+    let s111 = a1 + b1 + c1;
+    let pairs = [
+        s000,
+        s011,
+        s101,
+        s110,
+        s101,
+        s110,
+        s000,
+        s011,
+        s011,
+        s000,
+        s110,
+        s101,
+        s110,
+        s101,
+        s011,
+        s000,
+        s100,
+        s111,
+        s001,
+        s010,
+        s001,
+        s010,
+        s100,
+        s111,
+        s111,
+        s100,
+        s010,
+        s001,
+        s010,
+        s001,
+        s111,
+        s100,
+    ];
+    Weighed {
+        pairs,
+        all: s000 + s111,
+    }
+}
+
+// The costs of one step against its three values.
+pub fn weigh(a: u8, b: u8, c: u8) -> Weighed
+    ensures { λ r. ⌜ Weighs (a ∷ b ∷ c ∷ []) (r .pairs) (r .all) ⌝ }
+{
+    let a0 = against_zero(a);
+    let a1 = against_one(a);
+    let b0 = against_zero(b);
+    let b1 = against_one(b);
+    let c0 = against_zero(c);
+    let c1 = against_one(c);
+    arranged(a0, a1, b0, b1, c0, c1)
+}
+
+// What the two moves of each pair of states cost with all that follows: state 2j taking 0 and 1, state 2j + 1 taking 0 and 1.
+pub struct Moves {
+    pub even0: [u16; 32],
+    pub even1: [u16; 32],
+    pub odd0: [u16; 32],
+    pub odd1: [u16; 32],
+}
+
+// The costs of both moves of every state, from the row of the next moment and what the step costs.
+pub fn sums(row: [u16; 64], step: Weighed) -> Moves
+    requires { ⌜ Low row ⌝ }
+    requires { ⌜ Small (step .pairs) (step .all) ⌝ }
+    ensures { λ r. ⌜ Summed 32 row (step .pairs) (step .all) (r .even0) (r .even1) (r .odd0) (r .odd1) ⌝ }
+{
+    let pairs = step.pairs;
+    let all = step.all;
+    let mut even0 = [0u16; 32];
+    let mut even1 = [0u16; 32];
+    let mut odd0 = [0u16; 32];
+    let mut odd1 = [0u16; 32];
+    let mut j = 0;
+    while j < 32 {
+        let near = pairs[j];
+        let far = all - near;
+        let low = row[j];
+        let high = row[j + 32];
+        even0[j] = low + near;
+        even1[j] = high + far;
+        odd0[j] = low + far;
+        odd1[j] = high + near;
+        j += 1;
+    }
+    Moves {
+        even0,
+        even1,
+        odd0,
+        odd1,
+    }
+}
+
+// y is less than x. Compared as signed numbers, for which the processor has an instruction on eight at a time.
+fn below(y: u16, x: u16) -> bool
+    requires { ⌜ (y ≤ 32767) × (x ≤ 32767) ⌝ }
+    ensures { λ r. ⌜ r ≡ ltb y x ⌝ }
+{
+    (y as i16) < (x as i16)
+}
+
+// The lesser of two costs.
+fn lesser(x: u16, y: u16) -> u16
+    requires { ⌜ (y ≤ 32767) × (x ≤ 32767) ⌝ }
+    ensures { λ r. ⌜ r ≡ min x y ⌝ }
+{
+    if below(y, x) { y } else { x }
+}
+
+// 1 where taking 1 costs less than taking 0.
+fn choice(zero: u16, one: u16) -> u8
+    requires { ⌜ (one ≤ 32767) × (zero ≤ 32767) ⌝ }
+    ensures { λ r. ⌜ r ≡ bit (ltb one zero) ⌝ }
+{
+    if below(one, zero) { 1 } else { 0 }
+}
+
+// The row of the cheaper moves.
+pub fn minima(m: Moves) -> [u16; 64]
+    requires { ⌜ Within (m .even0) (m .even1) (m .odd0) (m .odd1) ⌝ }
+    ensures { λ r. ⌜ Least 32 (m .even0) (m .even1) (m .odd0) (m .odd1) r ⌝ }
+{
+    let even0 = m.even0;
+    let even1 = m.even1;
+    let odd0 = m.odd0;
+    let odd1 = m.odd1;
+    let mut next = [0u16; 64];
+    let mut j = 0;
+    while j < 32 {
+        next[2 * j] = lesser(even0[j], even1[j]);
+        next[2 * j + 1] = lesser(odd0[j], odd1[j]);
+        j += 1;
+    }
+    next
+}
+
+// The decisions so far, moved up by one bit, with this step's in the lowest.
+pub fn choices(m: Moves, old: [u8; 64]) -> [u8; 64]
+    requires { ⌜ Within (m .even0) (m .even1) (m .odd0) (m .odd1) ⌝ }
+    ensures { λ r. ⌜ Chosen 32 (m .even0) (m .even1) (m .odd0) (m .odd1) old r ⌝ }
+{
+    let even0 = m.even0;
+    let even1 = m.even1;
+    let odd0 = m.odd0;
+    let odd1 = m.odd1;
+    let mut next = [0u8; 64];
+    let mut j = 0;
+    while j < 32 {
+        next[j] = old[j] % 128 * 2 + choice(even0[j], even1[j]);
+        next[j + 32] = old[j + 32] % 128 * 2 + choice(odd0[j], odd1[j]);
+        j += 1;
+    }
+    next
+}
+
+// The row with the same taken off every cost.
+pub fn lowered(row: [u16; 64], by: u16) -> [u16; 64]
+    requires { ⌜ AtLeast row by ⌝ }
+    ensures { λ r. ⌜ Lowered 64 row by r ⌝ }
+{
+    let mut next = [0u16; 64];
+    let mut s = 0;
+    while s < 64 {
+        next[s] = row[s] - by;
+        s += 1;
+    }
+    next
+}
+
+// 64 bytes of decisions into their place.
+pub fn store(bytes: [u8; 64], kept: &mut [u8], place: usize)
+    requires { ⌜ place + 64 ≤ length (now kept) ⌝ }
+    ensures { λ r. ⌜ Stored 64 (now (kept .entry)) place bytes (now (kept .exit)) ⌝ }
+{
+    let mut k = 0;
+    while k < 64 {
+        kept[place + k] = bytes[k];
+        k += 1;
+    }
+}

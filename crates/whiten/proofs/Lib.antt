@@ -1,0 +1,4 @@
+pub mod Entries
+pub mod Period
+pub mod Walk
+pub mod Whiten
