@@ -2,9 +2,10 @@
 -- Assumes nothing.
 use mathlib.Core.Bool.{Bool}
 use mathlib.Core.List.{List}
-use mathlib.Core.Path.{_≡_, refl, sym, ap, _∙_}
-use Prim.Native.Nat.{ℕ, zero, suc, _+_, _-_, _*_, _%_, _≤_, _<_, min}
+use mathlib.Core.Path.{_≡_, refl, sym, ap, subst, _∙_}
+use Prim.Native.Nat.{ℕ, _+_, _-_, _*_, _%_, _≤_, _<_, min}
 use native.Mathlib.Nat.{not-suc-le-zero}
+use native.Mathlib.Decide.{decLt}
 use native.Mathlib.Omega.{arith}
 use lib.Dec.{ltb}
 use lib.ListN.{length, getD, set, length-set}
@@ -13,8 +14,25 @@ use Rattle.bits.specs.Bits.{bit}
 use Rattle.rows.specs.Rows.{Low, Small, Summed, Within, Least, Chosen, Lowered, Stored}
 use Rattle.rows.proofs.Lists.{set-grows, set-keeps}
 
-module _ {row pairs : List ℕ} {all : ℕ} {e0 e1 o0 o1 : List ℕ} where
-  pub summed-none : (length e0 ≡ 32) × (length e1 ≡ 32) × (length o0 ≡ 32) × (length o1 ≡ 32) → Summed 0 row pairs all e0 e1 o0 o1
+-- a list of 64 after stores of f j at j and of g j at j + 32
+abbrev both : List ℕ → ℕ → ℕ → ℕ → (ℕ → ℕ) → (ℕ → ℕ) → Type 0
+both l j x y f g =
+    (length (set (set l j x) (j + 32) y) ≡ 64)
+    × ((k : ℕ) → k < j + 1 → getD (set (set l j x) (j + 32) y) k 0 ≡ f k)
+    × ((k : ℕ) → k < j + 1 → getD (set (set l j x) (j + 32) y) (k + 32) 0 ≡ g k)
+
+both-more :
+  (l : List ℕ) (f g : ℕ → ℕ) (j : ℕ) → j < 32 → length l ≡ 64
+    → ((k : ℕ) → k < j → getD l k 0 ≡ f k) → ((k : ℕ) → k < j → getD l (k + 32) 0 ≡ g k)
+    → both l j (f j) (g j) f g
+both-more l f g j h s p q =
+    (length-set (set l j (f j)) (j + 32) (g j) ∙ length-set l j (f j) ∙ s,
+      set-keeps (set l j (f j)) (λ k. k) f (j + 32) (g j) (j + 1) (λ k b e. omega arith) (set-grows l (λ k. k) f j (f j) (omega arith) (λ k b e. omega arith) p refl),
+      set-grows (set l j (f j)) (λ k. k + 32) g j (g j) (omega (arith, length-set l j (f j))) (λ k b e. omega arith)
+      (set-keeps l (λ k. k + 32) g j (f j) j (λ k b e. omega arith) q) refl)
+
+module _ {row pairs : List ℕ} {all : ℕ} {zero one : List ℕ} where
+  pub summed-none : (length zero ≡ 64) × (length one ≡ 64) → Summed 0 row pairs all zero one
   summed-none s =
       record {
         sizes = s;
@@ -25,58 +43,52 @@ module _ {row pairs : List ℕ} {all : ℕ} {e0 e1 o0 o1 : List ℕ} where
       }
 
   pub summed-more :
-    (j : ℕ) → j < 32 → Summed j row pairs all e0 e1 o0 o1
-      → Summed (j + 1) row pairs all (set e0 j (getD row j 0 + getD pairs j 0)) (set e1 j (getD row (j + 32) 0 + (all - getD pairs j 0))) (set o0 j (getD row j 0 + (all - getD pairs j 0))) (set o1 j (getD row (j + 32) 0 + getD pairs j 0))
+    (j : ℕ) → j < 32 → Summed j row pairs all zero one
+      → Summed (j + 1) row pairs all (set (set zero j (getD row j 0 + getD pairs j 0)) (j + 32) (getD row j 0 + (all - getD pairs j 0))) (set (set one j (getD row (j + 32) 0 + (all - getD pairs j 0))) (j + 32) (getD row (j + 32) 0 + getD pairs j 0))
   summed-more j h p =
-      record {
-        sizes = (length-set e0 j _ ∙ p .sizes .0, length-set e1 j _ ∙ p .sizes .1, length-set o0 j _ ∙ p .sizes .2, length-set o1 j _ ∙ p .sizes .3);
-        even0 = set-grows e0 (λ k. k) (λ k. getD row k 0 + getD pairs k 0) j _ (omega (arith, p .sizes .0)) (λ k b e. omega arith) (p .even0) refl;
-        even1 = set-grows e1 (λ k. k) (λ k. getD row (k + 32) 0 + (all - getD pairs k 0)) j _ (omega (arith, p .sizes .1)) (λ k b e. omega arith) (p .even1) refl;
-        odd0 = set-grows o0 (λ k. k) (λ k. getD row k 0 + (all - getD pairs k 0)) j _ (omega (arith, p .sizes .2)) (λ k b e. omega arith) (p .odd0) refl;
-        odd1 = set-grows o1 (λ k. k) (λ k. getD row (k + 32) 0 + getD pairs k 0) j _ (omega (arith, p .sizes .3)) (λ k b e. omega arith) (p .odd1) refl
-      }
+      let z : both zero j (getD row j 0 + getD pairs j 0) (getD row j 0 + (all - getD pairs j 0)) (λ k. getD row k 0 + getD pairs k 0) (λ k. getD row k 0 + (all - getD pairs k 0)) = both-more zero (λ k. getD row k 0 + getD pairs k 0) (λ k. getD row k 0 + (all - getD pairs k 0)) j h (p .sizes .0) (p .even0) (p .odd0) in
+      let o : both one j (getD row (j + 32) 0 + (all - getD pairs j 0)) (getD row (j + 32) 0 + getD pairs j 0) (λ k. getD row (k + 32) 0 + (all - getD pairs k 0)) (λ k. getD row (k + 32) 0 + getD pairs k 0) = both-more one (λ k. getD row (k + 32) 0 + (all - getD pairs k 0)) (λ k. getD row (k + 32) 0 + getD pairs k 0) j h (p .sizes .1) (p .even1) (p .odd1) in
+      record { sizes = (z .0, o .0); even0 = z .1; even1 = o .1; odd0 = z .2; odd1 = o .2 }
 
   -- sums of a low row and a small step stay within 15 bits
-  pub summed-within : Low row → Small pairs all → Summed 32 row pairs all e0 e1 o0 o1 → Within e0 e1 o0 o1
-  summed-within l s p =
-      record {
-        even = λ j h. (omega (arith, p .even1 j h, l .under (j + 32) (omega arith), s .most), omega (arith, p .even0 j h, l .under j (omega arith), s .most, s .within j h));
-        odd = λ j h. (omega (arith, p .odd1 j h, l .under (j + 32) (omega arith), s .most, s .within j h), omega (arith, p .odd0 j h, l .under j (omega arith), s .most))
-      }
+  pub summed-within : Low row → Small pairs all → Summed 32 row pairs all zero one → Within zero one
+  summed-within l s m = record { each = λ p h. each p h (decLt p 32) }
+    where
+      even : (j : ℕ) → j < 32 → (getD one j 0 ≤ 32767) × (getD zero j 0 ≤ 32767)
+      even j h = (omega (arith, m .even1 j h, l .under (j + 32) (omega arith), s .most), omega (arith, m .even0 j h, l .under j (omega arith), s .most, s .within j h))
+      odd : (j : ℕ) → j < 32 → (getD one (j + 32) 0 ≤ 32767) × (getD zero (j + 32) 0 ≤ 32767)
+      odd j h = (omega (arith, m .odd1 j h, l .under (j + 32) (omega arith), s .most, s .within j h), omega (arith, m .odd0 j h, l .under j (omega arith), s .most))
+      each : (p : ℕ) → p < 64 → Dec (p < 32) → (getD one p 0 ≤ 32767) × (getD zero p 0 ≤ 32767)
+      each p h (yes z) = even p z
+      each p h (no z) =
+          let e : p - 32 + 32 ≡ p = omega arith in
+          subst (λ (q : ℕ). (getD one q 0 ≤ 32767) × (getD zero q 0 ≤ 32767)) e (odd (p - 32) (omega arith))
 
-module _ {e0 e1 o0 o1 : List ℕ} where
-  pub least-none : {next : List ℕ} → length next ≡ 64 → Least 0 e0 e1 o0 o1 next
+module _ {zero one : List ℕ} where
+  pub least-none : {next : List ℕ} → length next ≡ 64 → Least 0 zero one next
   least-none s = record { sized = s; even = λ j h. absurd (not-suc-le-zero h); odd = λ j h. absurd (not-suc-le-zero h) }
 
-  pub least-more : {next : List ℕ} (j x y : ℕ) → j < 32 → x ≡ min (getD e0 j 0) (getD e1 j 0) → y ≡ min (getD o0 j 0) (getD o1 j 0) → Least j e0 e1 o0 o1 next → Least (j + 1) e0 e1 o0 o1 (set (set next (2 * j) x) (2 * j + 1) y)
+  pub least-more : {next : List ℕ} (j x y : ℕ) → j < 32 → x ≡ min (getD zero j 0) (getD one j 0) → y ≡ min (getD zero (j + 32) 0) (getD one (j + 32) 0) → Least j zero one next → Least (j + 1) zero one (set (set next (2 * j) x) (2 * j + 1) y)
   least-more {next} j x y h a b p =
       record {
         sized = length-set (set next (2 * j) x) (2 * j + 1) y ∙ length-set next (2 * j) x ∙ p .sized;
         even =
-          set-keeps (set next (2 * j) x) (λ k. 2 * k) (λ k. min (getD e0 k 0) (getD e1 k 0)) (2 * j + 1) y (j + 1) (λ k l e. omega arith)
-          (set-grows next (λ k. 2 * k) (λ k. min (getD e0 k 0) (getD e1 k 0)) j x (omega (arith, p .sized)) (λ k l e. omega arith) (p .even) a);
+          set-keeps (set next (2 * j) x) (λ k. 2 * k) (λ k. min (getD zero k 0) (getD one k 0)) (2 * j + 1) y (j + 1) (λ k l e. omega arith)
+          (set-grows next (λ k. 2 * k) (λ k. min (getD zero k 0) (getD one k 0)) j x (omega (arith, p .sized)) (λ k l e. omega arith) (p .even) a);
         odd =
-          set-grows (set next (2 * j) x) (λ k. 2 * k + 1) (λ k. min (getD o0 k 0) (getD o1 k 0)) j y (omega (arith, p .sized, length-set next (2 * j) x)) (λ k l e. omega arith)
-          (set-keeps next (λ k. 2 * k + 1) (λ k. min (getD o0 k 0) (getD o1 k 0)) (2 * j) x j (λ k l e. omega arith) (p .odd)) b
+          set-grows (set next (2 * j) x) (λ k. 2 * k + 1) (λ k. min (getD zero (k + 32) 0) (getD one (k + 32) 0)) j y (omega (arith, p .sized, length-set next (2 * j) x)) (λ k l e. omega arith)
+          (set-keeps next (λ k. 2 * k + 1) (λ k. min (getD zero (k + 32) 0) (getD one (k + 32) 0)) (2 * j) x j (λ k l e. omega arith) (p .odd)) b
       }
 
-  pub chosen-none : {old next : List ℕ} → length next ≡ 64 → Chosen 0 e0 e1 o0 o1 old next
-  chosen-none s = record { sized = s; even = λ j h. absurd (not-suc-le-zero h); odd = λ j h. absurd (not-suc-le-zero h) }
+  pub chosen-none : {old next : List ℕ} → length next ≡ 64 → Chosen 0 zero one old next
+  chosen-none s = record { sized = s; each = λ j h. absurd (not-suc-le-zero h) }
 
   pub chosen-more :
-    {old next : List ℕ} (j x y : ℕ) → j < 32
-      → x ≡ 2 * (getD old j 0 % 128) + bit (ltb (getD e1 j 0) (getD e0 j 0))
-      → y ≡ 2 * (getD old (j + 32) 0 % 128) + bit (ltb (getD o1 j 0) (getD o0 j 0))
-      → Chosen j e0 e1 o0 o1 old next → Chosen (j + 1) e0 e1 o0 o1 old (set (set next j x) (j + 32) y)
-  chosen-more {old} {next} j x y h a b p =
+    {old next : List ℕ} (j x : ℕ) → j < 64 → x ≡ 2 * (getD old j 0 % 128) + bit (ltb (getD one j 0) (getD zero j 0)) → Chosen j zero one old next → Chosen (j + 1) zero one old (set next j x)
+  chosen-more {old} {next} j x h a p =
       record {
-        sized = length-set (set next j x) (j + 32) y ∙ length-set next j x ∙ p .sized;
-        even =
-          set-keeps (set next j x) (λ k. k) (λ k. 2 * (getD old k 0 % 128) + bit (ltb (getD e1 k 0) (getD e0 k 0))) (j + 32) y (j + 1) (λ k l e. omega arith)
-          (set-grows next (λ k. k) (λ k. 2 * (getD old k 0 % 128) + bit (ltb (getD e1 k 0) (getD e0 k 0))) j x (omega (arith, p .sized)) (λ k l e. omega arith) (p .even) a);
-        odd =
-          set-grows (set next j x) (λ k. k + 32) (λ k. 2 * (getD old (k + 32) 0 % 128) + bit (ltb (getD o1 k 0) (getD o0 k 0))) j y (omega (arith, p .sized, length-set next j x)) (λ k l e. omega arith)
-          (set-keeps next (λ k. k + 32) (λ k. 2 * (getD old (k + 32) 0 % 128) + bit (ltb (getD o1 k 0) (getD o0 k 0))) j x j (λ k l e. omega arith) (p .odd)) b
+        sized = length-set next j x ∙ p .sized;
+        each = set-grows next (λ k. k) (λ k. 2 * (getD old k 0 % 128) + bit (ltb (getD one k 0) (getD zero k 0))) j x (omega (arith, p .sized)) (λ k l e. omega arith) (p .each) a
       }
 
 pub lowered-none : {row next : List ℕ} {by : ℕ} → length next ≡ 64 → Lowered 0 row by next

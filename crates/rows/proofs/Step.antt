@@ -3,7 +3,7 @@
 use mathlib.Core.Bool.{Bool, true, false}
 use mathlib.Core.List.{List, [], _∷_}
 use mathlib.Core.Path.{_≡_, refl, sym, ap, subst, _∙_}
-use Prim.Native.Nat.{ℕ, zero, suc, _+_, _-_, _*_, _/_, _%_, _≤_, _<_, min}
+use Prim.Native.Nat.{ℕ, suc, _+_, _-_, _*_, _/_, _%_, _≤_, _<_, min}
 use native.Mathlib.Decide.{decLt}
 use native.Mathlib.Omega.{arith}
 use borrow.Author.Tests.{ltb-true, ltb-false}
@@ -32,8 +32,8 @@ ltb-add a b c d o e f = go (ltb a b) refl (ltb c d) refl
     go true h false l = absurd (omega (arith, ltb-true, ltb-false))
     go false h true l = absurd (omega (arith, ltb-true, ltb-false))
 
-module _ (a b c : ℕ) (rest : List ℕ) (k off all : ℕ) (row pairs e0 e1 o0 o1 : List ℕ)
-         (costs : Costs rest k row off) (w : Weighs (a ∷ b ∷ c ∷ []) pairs all) (m : Summed 32 row pairs all e0 e1 o0 o1) where
+module _ (a b c : ℕ) (rest : List ℕ) (k off all : ℕ) (row pairs zero one : List ℕ)
+         (costs : Costs rest k row off) (w : Weighs (a ∷ b ∷ c ∷ []) pairs all) (m : Summed 32 row pairs all zero one) where
   abbrev remaining : ℕ → ℕ
   remaining s = rem (open64 uplinkWords) k (facing rest s)
 
@@ -45,24 +45,24 @@ module _ (a b c : ℕ) (rest : List ℕ) (k off all : ℕ) (row pairs e0 e1 o0 o
   remaining-at s t e = ap (λ (q : ℕ). remaining q) e
 
   -- the four moves of a pair of states, with what follows
-  move-even0 : (j : ℕ) → j < 32 → getD e0 j 0 + off ≡ weighed false (2 * j) + remaining (2 * j / 2)
+  move-even0 : (j : ℕ) → j < 32 → getD zero j 0 + off ≡ weighed false (2 * j) + remaining (2 * j / 2)
   move-even0 j h =
       omega (arith, m .even0 j h, w .even0 j h, price-three false (2 * j) a b c rest, costs .each j (omega arith), remaining-at (2 * j / 2) j (omega arith))
 
-  move-even1 : (j : ℕ) → j < 32 → getD e1 j 0 + off ≡ weighed true (2 * j) + remaining (2 * j / 2 + 32)
+  move-even1 : (j : ℕ) → j < 32 → getD one j 0 + off ≡ weighed true (2 * j) + remaining (2 * j / 2 + 32)
   move-even1 j h =
       omega (arith, m .even1 j h, w .even1 j h, price-three true (2 * j) a b c rest, costs .each (j + 32) (omega arith), remaining-at (2 * j / 2 + 32) (j + 32) (omega arith))
 
-  move-odd0 : (j : ℕ) → j < 32 → getD o0 j 0 + off ≡ weighed false (2 * j + 1) + remaining ((2 * j + 1) / 2)
+  move-odd0 : (j : ℕ) → j < 32 → getD zero (j + 32) 0 + off ≡ weighed false (2 * j + 1) + remaining ((2 * j + 1) / 2)
   move-odd0 j h =
       omega (arith, m .odd0 j h, w .odd0 j h, price-three false (2 * j + 1) a b c rest, costs .each j (omega arith), remaining-at ((2 * j + 1) / 2) j (omega arith))
 
-  move-odd1 : (j : ℕ) → j < 32 → getD o1 j 0 + off ≡ weighed true (2 * j + 1) + remaining ((2 * j + 1) / 2 + 32)
+  move-odd1 : (j : ℕ) → j < 32 → getD one (j + 32) 0 + off ≡ weighed true (2 * j + 1) + remaining ((2 * j + 1) / 2 + 32)
   move-odd1 j h =
       omega (arith, m .odd1 j h, w .odd1 j h, price-three true (2 * j + 1) a b c rest, costs .each (j + 32) (omega arith), remaining-at ((2 * j + 1) / 2 + 32) (j + 32) (omega arith))
 
   -- the row of the cheaper moves has the costs with one step more
-  pub costs-step : {next : List ℕ} → Least 32 e0 e1 o0 o1 next → Costs (a ∷ b ∷ c ∷ rest) (suc k) next off
+  pub costs-step : {next : List ℕ} → Least 32 zero one next → Costs (a ∷ b ∷ c ∷ rest) (suc k) next off
   unfolding rem
   costs-step {next} l = record { sized = l .sized; each = λ s h. each s h (decLt (s % 2) 1) }
     where
@@ -79,13 +79,13 @@ module _ (a b c : ℕ) (rest : List ℕ) (k off all : ℕ) (row pairs e0 e1 o0 o
           subst (λ (q : ℕ). getD next q 0 + off ≡ rem (open64 uplinkWords) (suc k) (facing (a ∷ b ∷ c ∷ rest) q)) e (odd (s / 2) (omega arith))
 
   -- each byte has the machine's decision in its lowest bit
-  pub chosen-step : {old next : List ℕ} → Chosen 32 e0 e1 o0 o1 old next → (p : ℕ) → p < 64 → getD next p 0 ≡ 2 * (getD old p 0 % 128) + bit (taken (a ∷ b ∷ c ∷ rest) k p)
+  pub chosen-step : {old next : List ℕ} → Chosen 64 zero one old next → (p : ℕ) → p < 64 → getD next p 0 ≡ 2 * (getD old p 0 % 128) + bit (taken (a ∷ b ∷ c ∷ rest) k p)
   unfolding takes
   chosen-step {old} {next} g p h = each (decLt p 32)
     where
       each : Dec (p < 32) → getD next p 0 ≡ 2 * (getD old p 0 % 128) + bit (taken (a ∷ b ∷ c ∷ rest) k p)
       each (yes z) =
-          g .even p z
+          g .each p h
           ∙ ap (λ (d : Bool). 2 * (getD old p 0 % 128) + bit d) (ltb-add _ _ _ _ off (move-even1 p z) (move-even0 p z))
           ∙ ap (λ (s : ℕ). 2 * (getD old p 0 % 128) + bit (takes (open64 uplinkWords) k (facing (a ∷ b ∷ c ∷ rest) s))) (omega arith)
       each (no z) =
@@ -93,6 +93,6 @@ module _ (a b c : ℕ) (rest : List ℕ) (k off all : ℕ) (row pairs e0 e1 o0 o
           let e : j + 32 ≡ p = omega arith in
           let l : j < 32 = omega arith in
           subst (λ (q : ℕ). getD next q 0 ≡ 2 * (getD old q 0 % 128) + bit (taken (a ∷ b ∷ c ∷ rest) k p)) e
-          (g .odd j l
+          (g .each (j + 32) (omega arith)
             ∙ ap (λ (d : Bool). 2 * (getD old (j + 32) 0 % 128) + bit d) (ltb-add _ _ _ _ off (move-odd1 j l) (move-odd0 j l))
             ∙ ap (λ (s : ℕ). 2 * (getD old (j + 32) 0 % 128) + bit (takes (open64 uplinkWords) k (facing (a ∷ b ∷ c ∷ rest) s))) (omega arith))

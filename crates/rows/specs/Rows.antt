@@ -66,30 +66,28 @@ pub record Low (row : List ℕ) : Type 0 where
   pub sized : length row ≡ 64
   pub under : (s : ℕ) → s < 64 → getD row s 0 ≤ 32000
 
--- the costs of both moves of the states 2j and 2j + 1, for the first n pairs
-pub record Summed (n : ℕ) (row pairs : List ℕ) (all : ℕ) (even0s even1s odd0s odd1s : List ℕ) : Type 0 where
-  pub sizes : (length even0s ≡ 32) × (length even1s ≡ 32) × (length odd0s ≡ 32) × (length odd1s ≡ 32)
-  pub even0 : (j : ℕ) → j < n → getD even0s j 0 ≡ getD row j 0 + getD pairs j 0
-  pub even1 : (j : ℕ) → j < n → getD even1s j 0 ≡ getD row (j + 32) 0 + (all - getD pairs j 0)
-  pub odd0 : (j : ℕ) → j < n → getD odd0s j 0 ≡ getD row j 0 + (all - getD pairs j 0)
-  pub odd1 : (j : ℕ) → j < n → getD odd1s j 0 ≡ getD row (j + 32) 0 + getD pairs j 0
+-- the costs of both moves of the states 2j and 2j + 1, for the first n pairs: taking 0 and taking 1, the even states in the first 32 places and the odd ones in the others
+pub record Summed (n : ℕ) (row pairs : List ℕ) (all : ℕ) (zero one : List ℕ) : Type 0 where
+  pub sizes : (length zero ≡ 64) × (length one ≡ 64)
+  pub even0 : (j : ℕ) → j < n → getD zero j 0 ≡ getD row j 0 + getD pairs j 0
+  pub even1 : (j : ℕ) → j < n → getD one j 0 ≡ getD row (j + 32) 0 + (all - getD pairs j 0)
+  pub odd0 : (j : ℕ) → j < n → getD zero (j + 32) 0 ≡ getD row j 0 + (all - getD pairs j 0)
+  pub odd1 : (j : ℕ) → j < n → getD one (j + 32) 0 ≡ getD row (j + 32) 0 + getD pairs j 0
 
 -- costs within 15 bits
-pub record Within (even0s even1s odd0s odd1s : List ℕ) : Type 0 where
-  pub even : (j : ℕ) → j < 32 → (getD even1s j 0 ≤ 32767) × (getD even0s j 0 ≤ 32767)
-  pub odd : (j : ℕ) → j < 32 → (getD odd1s j 0 ≤ 32767) × (getD odd0s j 0 ≤ 32767)
+pub record Within (zero one : List ℕ) : Type 0 where
+  pub each : (p : ℕ) → p < 64 → (getD one p 0 ≤ 32767) × (getD zero p 0 ≤ 32767)
 
 -- the cheaper of the two moves of each state of the first n pairs
-pub record Least (n : ℕ) (even0s even1s odd0s odd1s next : List ℕ) : Type 0 where
+pub record Least (n : ℕ) (zero one next : List ℕ) : Type 0 where
   pub sized : length next ≡ 64
-  pub even : (j : ℕ) → j < n → getD next (2 * j) 0 ≡ min (getD even0s j 0) (getD even1s j 0)
-  pub odd : (j : ℕ) → j < n → getD next (2 * j + 1) 0 ≡ min (getD odd0s j 0) (getD odd1s j 0)
+  pub even : (j : ℕ) → j < n → getD next (2 * j) 0 ≡ min (getD zero j 0) (getD one j 0)
+  pub odd : (j : ℕ) → j < n → getD next (2 * j + 1) 0 ≡ min (getD zero (j + 32) 0) (getD one (j + 32) 0)
 
--- for the first n pairs, one more decision in the lowest bit of each byte, 1 where taking 1 is cheaper: the even states in the first 32 bytes, the odd ones in the others
-pub record Chosen (n : ℕ) (even0s even1s odd0s odd1s old next : List ℕ) : Type 0 where
+-- at the first n places, one more decision in the lowest bit of each byte, 1 where taking 1 is cheaper
+pub record Chosen (n : ℕ) (zero one old next : List ℕ) : Type 0 where
   pub sized : length next ≡ 64
-  pub even : (j : ℕ) → j < n → getD next j 0 ≡ 2 * (getD old j 0 % 128) + bit (ltb (getD even1s j 0) (getD even0s j 0))
-  pub odd : (j : ℕ) → j < n → getD next (j + 32) 0 ≡ 2 * (getD old (j + 32) 0 % 128) + bit (ltb (getD odd1s j 0) (getD odd0s j 0))
+  pub each : (p : ℕ) → p < n → getD next p 0 ≡ 2 * (getD old p 0 % 128) + bit (ltb (getD one p 0) (getD zero p 0))
 
 -- no cost of a row is less than what is to be taken off
 pub record AtLeast (row : List ℕ) (by : ℕ) : Type 0 where

@@ -2,7 +2,7 @@
 -- Assumes nothing.
 use mathlib.Core.List.{List, [], _∷_}
 use mathlib.Core.Path.{_≡_, refl, sym, ap, subst, _∙_}
-use Prim.Native.Nat.{ℕ, zero, suc, _+_, _-_, _*_, _/_, _%_, _≤_, _<_}
+use Prim.Native.Nat.{ℕ, suc, _+_, _-_, _*_, _/_, _%_, _≤_, _<_}
 use native.Mathlib.Decide.{decLt}
 use native.Mathlib.Omega.{arith}
 use lib.ListN.{length, getD}
@@ -11,8 +11,8 @@ use Rattle.rows.specs.Remaining.{Costs}
 use Rattle.rows.proofs.Step.{costs-step, chosen-step}
 use Rattle.search.specs.Search.{Turn, Spread, Leveled}
 
-module _ {a b c all : ℕ} {row bytes pairs e0 e1 o0 o1 row′ bytes′ : List ℕ}
-         (w : Weighs (a ∷ b ∷ c ∷ []) pairs all) (m : Summed 32 row pairs all e0 e1 o0 o1) (l : Least 32 e0 e1 o0 o1 row′) (g : Chosen 32 e0 e1 o0 o1 bytes bytes′) where
+module _ {a b c all : ℕ} {row bytes pairs zero one row′ bytes′ : List ℕ}
+         (w : Weighs (a ∷ b ∷ c ∷ []) pairs all) (m : Summed 32 row pairs all zero one) (l : Least 32 zero one row′) (g : Chosen 64 zero one bytes bytes′) where
   rise-even : (most j : ℕ) → j < 32 → getD row j 0 ≤ most → getD row′ (2 * j) 0 ≤ most + 384
   rise-even most j h u = omega (arith, l .even j h, m .even0 j h, w .small .within j h, w .small .most)
 
@@ -30,8 +30,8 @@ module _ {a b c all : ℕ} {row bytes pairs e0 e1 o0 o1 row′ bytes′ : List �
   pub turn-of : Turn a b c row bytes row′ bytes′
   turn-of =
       record {
-        costs = λ rest k off p. costs-step a b c rest k off all row pairs e0 e1 o0 o1 p w m l;
-        chosen = λ rest k off p. chosen-step a b c rest k off all row pairs e0 e1 o0 o1 p w m g;
+        costs = λ rest k off p. costs-step a b c rest k off all row pairs zero one p w m l;
+        chosen = λ rest k off p. chosen-step a b c rest k off all row pairs zero one p w m g;
         rise = λ most u s h. rise-each most s h (u (s / 2) (omega arith)) (decLt (s % 2) 1)
       }
 

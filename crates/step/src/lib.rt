@@ -95,44 +95,35 @@ pub fn weigh(a: u8, b: u8, c: u8) -> Weighed
     arranged(a0, a1, b0, b1, c0, c1)
 }
 
-// What the two moves of each pair of states cost with all that follows: state 2j taking 0 and 1, state 2j + 1 taking 0 and 1.
+// What taking 0 and taking 1 costs in each state, with all that follows: the even states in the first 32 places, the odd ones in the others.
 pub struct Moves {
-    pub even0: [u16; 32],
-    pub even1: [u16; 32],
-    pub odd0: [u16; 32],
-    pub odd1: [u16; 32],
+    pub zero: [u16; 64],
+    pub one: [u16; 64],
 }
 
 // The costs of both moves of every state, from the row of the next moment and what the step costs.
 pub fn sums(row: [u16; 64], step: Weighed) -> Moves
     requires { ⌜ Low row ⌝ }
     requires { ⌜ Small (step .pairs) (step .all) ⌝ }
-    ensures { λ r. ⌜ Summed 32 row (step .pairs) (step .all) (r .even0) (r .even1) (r .odd0) (r .odd1) ⌝ }
+    ensures { λ r. ⌜ Summed 32 row (step .pairs) (step .all) (r .zero) (r .one) ⌝ }
 {
     let pairs = step.pairs;
     let all = step.all;
-    let mut even0 = [0u16; 32];
-    let mut even1 = [0u16; 32];
-    let mut odd0 = [0u16; 32];
-    let mut odd1 = [0u16; 32];
+    let mut zero = [0u16; 64];
+    let mut one = [0u16; 64];
     let mut j = 0;
     while j < 32 {
         let near = pairs[j];
         let far = all - near;
         let low = row[j];
         let high = row[j + 32];
-        even0[j] = low + near;
-        even1[j] = high + far;
-        odd0[j] = low + far;
-        odd1[j] = high + near;
+        zero[j] = low + near;
+        zero[j + 32] = low + far;
+        one[j] = high + far;
+        one[j + 32] = high + near;
         j += 1;
     }
-    Moves {
-        even0,
-        even1,
-        odd0,
-        odd1,
-    }
+    Moves { zero, one }
 }
 
 // y is less than x. Compared as signed numbers, for which the processor has an instruction on eight at a time.
@@ -161,18 +152,16 @@ fn choice(zero: u16, one: u16) -> u8
 
 // The row of the cheaper moves.
 pub fn minima(m: Moves) -> [u16; 64]
-    requires { ⌜ Within (m .even0) (m .even1) (m .odd0) (m .odd1) ⌝ }
-    ensures { λ r. ⌜ Least 32 (m .even0) (m .even1) (m .odd0) (m .odd1) r ⌝ }
+    requires { ⌜ Within (m .zero) (m .one) ⌝ }
+    ensures { λ r. ⌜ Least 32 (m .zero) (m .one) r ⌝ }
 {
-    let even0 = m.even0;
-    let even1 = m.even1;
-    let odd0 = m.odd0;
-    let odd1 = m.odd1;
+    let zero = m.zero;
+    let one = m.one;
     let mut next = [0u16; 64];
     let mut j = 0;
     while j < 32 {
-        next[2 * j] = lesser(even0[j], even1[j]);
-        next[2 * j + 1] = lesser(odd0[j], odd1[j]);
+        next[2 * j] = lesser(zero[j], one[j]);
+        next[2 * j + 1] = lesser(zero[j + 32], one[j + 32]);
         j += 1;
     }
     next
@@ -180,19 +169,16 @@ pub fn minima(m: Moves) -> [u16; 64]
 
 // The decisions so far, moved up by one bit, with this step's in the lowest.
 pub fn choices(m: Moves, old: [u8; 64]) -> [u8; 64]
-    requires { ⌜ Within (m .even0) (m .even1) (m .odd0) (m .odd1) ⌝ }
-    ensures { λ r. ⌜ Chosen 32 (m .even0) (m .even1) (m .odd0) (m .odd1) old r ⌝ }
+    requires { ⌜ Within (m .zero) (m .one) ⌝ }
+    ensures { λ r. ⌜ Chosen 64 (m .zero) (m .one) old r ⌝ }
 {
-    let even0 = m.even0;
-    let even1 = m.even1;
-    let odd0 = m.odd0;
-    let odd1 = m.odd1;
+    let zero = m.zero;
+    let one = m.one;
     let mut next = [0u8; 64];
-    let mut j = 0;
-    while j < 32 {
-        next[j] = old[j] % 128 * 2 + choice(even0[j], even1[j]);
-        next[j + 32] = old[j + 32] % 128 * 2 + choice(odd0[j], odd1[j]);
-        j += 1;
+    let mut p = 0;
+    while p < 64 {
+        next[p] = old[p] % 128 * 2 + choice(zero[p], one[p]);
+        p += 1;
     }
     next
 }

@@ -1,4 +1,4 @@
--- `step::choices` meets its contract: after j turns the bytes of the first j pairs have one decision more. Assumes nothing.
+-- `step::choices` meets its contract: after p turns the first p bytes have one decision more. Assumes nothing.
 use mathlib.Core.Path.{_≡_, refl}
 use Prim.Native.Nat.{ℕ, _+_, _-_, _*_, _≤_, _<_}
 use native.Mathlib.Omega.{arith}
@@ -11,35 +11,27 @@ use Rattle.step.proofs.choices.Statement.{statement}
 use Rattle.step.proofs.choices.Tie as tie
 
 abbrev Inv-loop : tie.InvT-loop
-Inv-loop old even0 even1 odd0 odd1 next₀ j₀ next j = (j ≤ 32) × Chosen j even0 even1 odd0 odd1 old next
+Inv-loop old zero one next₀ p₀ next p = (p ≤ 64) × Chosen p zero one old next
 
 abbrev μ-loop : tie.MeasureT-loop
-μ-loop old even0 even1 odd0 odd1 next₀ j₀ next j = 32 - j
+μ-loop old zero one next₀ p₀ next p = 64 - p
 
 loop-holds : tie.Need-loop-holds Inv-loop μ-loop
 loop-holds c = (omega arith, chosen-none refl)
 
 choice-requires : tie.Need-choice-requires Inv-loop μ-loop
-choice-requires c κs = c .before .before .before .before .before .before .pre .even (c .before .loop .j) (omega arith)
-
-choice-requires-2 : tie.Need-choice-requires-2 Inv-loop μ-loop
-choice-requires-2 c κs = c .before .before .before .before .before .before .before .pre .odd (c .before .before .loop .j) (omega arith)
+choice-requires c κs = c .before .before .before .before .pre .each (c .before .loop .p) (omega arith)
 
 add-next : tie.Need-add-next Inv-loop μ-loop
-add-next c = omega (arith, c .choice .ensures, bit-below-two (ltb (getD (c .before .before .before .before .before .before .before .args .m .even1) (c .before .before .loop .j) 0) (getD (c .before .before .before .before .before .before .before .args .m .even0) (c .before .before .loop .j) 0)))
-
-add-next-3 : tie.Need-add-next-3 Inv-loop μ-loop
-add-next-3 c = omega (arith, c .choice2 .ensures, bit-below-two (ltb (getD (c .before .before .before .before .before .before .before .before .args .m .odd1) (c .before .before .before .loop .j) 0) (getD (c .before .before .before .before .before .before .before .before .args .m .odd0) (c .before .before .before .loop .j) 0)))
+add-next c =
+    omega (arith, c .choice .ensures, bit-below-two (ltb (getD (c .before .before .before .before .before .args .m .one) (c .before .before .loop .p) 0) (getD (c .before .before .before .before .before .args .m .zero) (c .before .before .loop .p) 0)))
 
 loop-again : tie.Need-loop-again Inv-loop μ-loop
-loop-again c =
-    (omega arith,
-      chosen-more (c .before .before .before .loop .j) _ _ (omega arith) (omega (arith, c .before .choice .ensures)) (omega (arith, c .choice2 .ensures))
-      (c .before .before .before .loop .inv .1))
+loop-again c = (omega arith, chosen-more (c .before .before .loop .p) _ (omega arith) (omega (arith, c .choice .ensures)) (c .before .before .loop .inv .1))
 
 returns : tie.Need-returns Inv-loop μ-loop
 returns c =
-    let e : c .before .loop .j ≡ 32 = omega arith in
+    let e : c .before .loop .p ≡ 64 = omega arith in
     rw e at (c .before .loop .inv .1)
 
 pub choices-spec : {M : Type 1} → statement M
@@ -57,17 +49,6 @@ choices-spec =
     (λ c. omega arith)
     choice-requires
     add-next
-    (λ c. omega arith)
-    (λ c. omega arith)
-    (λ c. omega arith)
-    (λ c. omega arith)
-    (λ c. omega arith)
-    (λ c. omega arith)
-    (λ c. omega arith)
-    (λ c. omega arith)
-    choice-requires-2
-    add-next-3
-    (λ c. omega arith)
     (λ c. omega arith)
     (λ c. omega arith)
     (λ c. omega arith)

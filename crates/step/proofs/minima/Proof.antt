@@ -8,19 +8,19 @@ use Rattle.step.proofs.minima.Statement.{statement}
 use Rattle.step.proofs.minima.Tie as tie
 
 abbrev Inv-loop : tie.InvT-loop
-Inv-loop even0 even1 odd0 odd1 next₀ j₀ next j = (j ≤ 32) × Least j even0 even1 odd0 odd1 next
+Inv-loop zero one next₀ j₀ next j = (j ≤ 32) × Least j zero one next
 
 abbrev μ-loop : tie.MeasureT-loop
-μ-loop even0 even1 odd0 odd1 next₀ j₀ next j = 32 - j
+μ-loop zero one next₀ j₀ next j = 32 - j
 
 loop-holds : tie.Need-loop-holds Inv-loop μ-loop
 loop-holds c = (omega arith, least-none refl)
 
 lesser-requires : tie.Need-lesser-requires Inv-loop μ-loop
-lesser-requires c κs = c .before .before .before .before .before .before .pre .even (c .before .loop .j) (omega arith)
+lesser-requires c κs = c .before .before .before .before .pre .each (c .before .loop .j) (omega arith)
 
 lesser-requires-2 : tie.Need-lesser-requires-2 Inv-loop μ-loop
-lesser-requires-2 c κs = c .before .before .before .before .before .before .before .pre .odd (c .before .before .loop .j) (omega arith)
+lesser-requires-2 c κs = c .before .before .before .before .before .pre .each (c .before .before .loop .j + 32) (omega arith)
 
 loop-again : tie.Need-loop-again Inv-loop μ-loop
 loop-again c =
@@ -45,6 +45,8 @@ minima-spec =
     (λ c. omega arith)
     (λ c. omega arith)
     lesser-requires
+    (λ c. omega arith)
+    (λ c. omega arith)
     (λ c. omega arith)
     (λ c. omega arith)
     (λ c. omega arith)

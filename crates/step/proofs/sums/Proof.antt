@@ -8,33 +8,28 @@ use Rattle.step.proofs.sums.Statement.{statement}
 use Rattle.step.proofs.sums.Tie as tie
 
 abbrev Inv-loop : tie.InvT-loop
-Inv-loop row pairs all even0₀ even1₀ odd0₀ odd1₀ j₀ even0 even1 odd0 odd1 j =
-    (j ≤ 32) × Summed j row pairs all even0 even1 odd0 odd1
+Inv-loop row pairs all zero₀ one₀ j₀ zero one j = (j ≤ 32) × Summed j row pairs all zero one
 
 abbrev μ-loop : tie.MeasureT-loop
-μ-loop row pairs all even0₀ even1₀ odd0₀ odd1₀ j₀ even0 even1 odd0 odd1 j = 32 - j
+μ-loop row pairs all zero₀ one₀ j₀ zero one j = 32 - j
 
 loop-holds : tie.Need-loop-holds Inv-loop μ-loop
-loop-holds c = (omega arith, summed-none (refl, refl, refl, refl))
+loop-holds c = (omega arith, summed-none (refl, refl))
 
 sub-far : tie.Need-sub-far Inv-loop μ-loop
 sub-far c = c .before .before .before .pre .1 .within (c .before .loop .j) (omega arith)
 
-add-even0 : tie.Need-add-even0 Inv-loop μ-loop
-add-even0 c =
-    omega (arith, c .before .before .before .pre .0 .under (c .before .loop .j) (omega arith), c .before .before .before .pre .1 .within (c .before .loop .j) (omega arith), c .before .before .before .pre .1 .most)
+add-zero : tie.Need-add-zero Inv-loop μ-loop
+add-zero c = omega (arith, c .before .before .before .pre .0 .under (c .before .loop .j) (omega arith), c .before .before .before .pre .1 .within (c .before .loop .j) (omega arith), c .before .before .before .pre .1 .most)
 
-add-even1 : tie.Need-add-even1 Inv-loop μ-loop
-add-even1 c =
-    omega (arith, c .before .before .before .pre .0 .under (c .before .loop .j + 32) (omega arith), c .before .before .before .pre .1 .most)
+add-zero-2 : tie.Need-add-zero-2 Inv-loop μ-loop
+add-zero-2 c = omega (arith, c .before .before .before .pre .0 .under (c .before .loop .j) (omega arith), c .before .before .before .pre .1 .most)
 
-add-odd0 : tie.Need-add-odd0 Inv-loop μ-loop
-add-odd0 c =
-    omega (arith, c .before .before .before .pre .0 .under (c .before .loop .j) (omega arith), c .before .before .before .pre .1 .most)
+add-one : tie.Need-add-one Inv-loop μ-loop
+add-one c = omega (arith, c .before .before .before .pre .0 .under (c .before .loop .j + 32) (omega arith), c .before .before .before .pre .1 .most)
 
-add-odd1 : tie.Need-add-odd1 Inv-loop μ-loop
-add-odd1 c =
-    omega (arith, c .before .before .before .pre .0 .under (c .before .loop .j + 32) (omega arith), c .before .before .before .pre .1 .within (c .before .loop .j) (omega arith), c .before .before .before .pre .1 .most)
+add-one-2 : tie.Need-add-one-2 Inv-loop μ-loop
+add-one-2 c = omega (arith, c .before .before .before .pre .0 .under (c .before .loop .j + 32) (omega arith), c .before .before .before .pre .1 .within (c .before .loop .j) (omega arith), c .before .before .before .pre .1 .most)
 
 loop-again : tie.Need-loop-again Inv-loop μ-loop
 loop-again c = (omega arith, summed-more (c .before .loop .j) (omega arith) (c .before .loop .inv .1))
@@ -59,16 +54,18 @@ sums-spec =
     (λ c. omega arith)
     (λ c. omega arith)
     (λ c. omega arith)
-    add-even0
+    add-zero
     (λ c. omega arith)
     (λ c. omega arith)
-    add-even1
+    add-zero-2
     (λ c. omega arith)
     (λ c. omega arith)
-    add-odd0
+    (λ c. omega arith)
+    add-one
     (λ c. omega arith)
     (λ c. omega arith)
-    add-odd1
+    add-one-2
+    (λ c. omega arith)
     (λ c. omega arith)
     (λ c. omega arith)
     (λ c. omega arith)
