@@ -14,6 +14,11 @@ use Rattle.coder.specs.Cost.{negative, weight, against, distance, cost, 
 use Rattle.coder.specs.Nearest.{NotAfter, same, Nearest}
 use Rattle.coder.proofs.Coded.{length-coded}
 
+-- the byte 128 is -128, whose magnitude no signed byte holds: it weighs 128
+pub weight-128 : weight 128 ≡ 128
+unfolding weight
+weight-128 = refl
+
 -- a byte weighs at most 128
 pub weight-le : (v : ℕ) → weight v ≤ 128
 unfolding weight
@@ -75,7 +80,7 @@ apart-le (x ∷ xs) (y ∷ ys) [] = omega arith
 apart-le (x ∷ xs) (y ∷ ys) (v ∷ vs) = omega (arith, differ-le x y v, apart-le xs ys vs)
 
 module _ (w : Words) (values : List ℕ) (u : List Bool)
-         (half : (y : List Bool) → length y ≡ length u → (y ≡ u → ⊥) → 2 * cost w values u < apart (coded w u) (coded w y) values) where
+    (half : (y : List Bool) → length y ≡ length u → (y ≡ u → ⊥) → 2 * cost w values u < apart (coded w u) (coded w y) values) where
   -- every other string of its length costs more
   pub within-half-less : (y : List Bool) → length y ≡ length u → (y ≡ u → ⊥) → cost w values u < cost w values y
   unfolding cost
@@ -87,12 +92,13 @@ module _ (w : Words) (values : List ℕ) (u : List Bool)
       record {
         sized = refl;
         least = λ y e. least y e (List-discrete Bool-discrete y u);
-        first = λ y e c. first y e c (List-discrete Bool-discrete y u)
+        first = λ y e c. first y e c (List-discrete Bool-discrete y u);
       }
     where
       least : (y : List Bool) → length y ≡ length u → Dec (y ≡ u) → cost w values u ≤ cost w values y
       least y e (yes s) = subst (λ (l : List Bool). cost w values u ≤ cost w values l) (sym s) (le-refl _)
       least y e (no d) = omega (arith, within-half-less y e d)
+
       first : (y : List Bool) → length y ≡ length u → cost w values y ≡ cost w values u → Dec (y ≡ u) → NotAfter u y
       first y e c (yes s) = subst (λ (l : List Bool). NotAfter u l) (sym s) same
       first y e c (no d) = absurd (omega (arith, within-half-less y e d))

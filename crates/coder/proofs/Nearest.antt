@@ -33,6 +33,7 @@ module _ (cost : List Bool → ℕ) {n : ℕ} {z o : List Bool} where
       least [] e = omega arith
       least (false ∷ y) e = p .least y (omega arith)
       least (true ∷ y) e = omega (arith, q .least y (omega arith))
+
       first : (y : List Bool) → length y ≡ suc n → cost y ≡ cost (false ∷ z) → NotAfter (false ∷ z) y
       first [] e c = absurd (omega arith)
       first (false ∷ y) e c = more (p .first y (omega arith) c)
@@ -46,6 +47,7 @@ module _ (cost : List Bool → ℕ) {n : ℕ} {z o : List Bool} where
       least [] e = omega arith
       least (true ∷ y) e = q .least y (omega arith)
       least (false ∷ y) e = omega (arith, p .least y (omega arith))
+
       first : (y : List Bool) → length y ≡ suc n → cost y ≡ cost (true ∷ o) → NotAfter (true ∷ o) y
       first [] e c = absurd (omega arith)
       first (true ∷ y) e c = more (q .first y (omega arith) c)
@@ -67,6 +69,7 @@ nearest-is cost zero = record { sized = refl; least = least; first = first }
     least : (y : List Bool) → length y ≡ 0 → cost [] ≤ cost y
     least [] e = le-refl _
     least (b ∷ y) e = absurd (omega arith)
+
     first : (y : List Bool) → length y ≡ 0 → cost y ≡ cost [] → NotAfter [] y
     first [] e c = same
     first (b ∷ y) e c = absurd (omega arith)

@@ -70,9 +70,9 @@ holds-shifted b {taken} {s} p =
     record {
       below = shifted-below b s (p .below);
       lastSix =
-        bitsOf-shifted b s (p .below)
-        ∙ ap (λ (l : List Bool). b ∷ take 5 l) (p .lastSix)
-        ∙ ap (λ (l : List Bool). b ∷ l) (take-take 5 6 (taken ++ replicate 6 false) (omega arith))
+          bitsOf-shifted b s (p .below)
+          ∙ ap (λ (l : List Bool). b ∷ take 5 l) (p .lastSix)
+          ∙ ap (λ (l : List Bool). b ∷ l) (take-take 5 6 (taken ++ replicate 6 false) (omega arith));
     }
 
 -- a word of at most seven bits selects the same from the number as from all the bits taken

@@ -2,3 +2,4 @@ pub mod Coder
 pub mod Cost
 pub mod Nearest
 pub mod Register
+pub mod Encode

@@ -1,0 +1,1 @@
+// The fields of the PHY payload. Definitions and laws only, so far.
