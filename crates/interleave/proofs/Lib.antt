@@ -1,0 +1,8 @@
+pub mod Lies
+pub mod Order
+pub mod Every
+pub mod Carries
+pub mod Shift
+pub mod Placed
+pub mod Bursts
+pub mod Steps

@@ -1,0 +1,2 @@
+pub mod Interleave
+pub mod Bursts
