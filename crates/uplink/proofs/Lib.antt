@@ -1,0 +1,11 @@
+pub mod Refusals
+pub mod Silence
+pub mod Sides
+pub mod Returned
+pub mod Demands
+pub mod Unique
+pub mod Lost
+pub mod Judged
+pub mod Forms
+pub mod Building
+pub mod Recovering
