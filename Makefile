@@ -1,6 +1,6 @@
 # make          prove every crate and build the archives
 # make test     the gate: formatting, every proof from nothing, every must-fail edit, every program
-# make bench    measure the search (and libosmocore's decoder where it is installed)
+# make bench    measure recovery and its steps (and libosmocore's decoder where it is installed)
 # make clean    remove what was built
 
 .DEFAULT_GOAL := all
@@ -8,7 +8,7 @@
 
 all: tools
 	rt check
-	rt staticlib bench_search
+	rt staticlib bench
 
 test:
 	@tools/gate

@@ -1,5 +1,6 @@
-/* The benchmark: the search of the proved archive against libosmocore's decoder, on the same soft values, in one run.
- * Each round measures every candidate in turn; the least time of all rounds counts. See docs/CHANGES.md for figures. */
+/* The benchmark: recovery and its search, from the proved archive, against libosmocore's decoder alone, in one run on the same soft values:
+ * a built frame of random bytes, heard with noise and with one sub-packet in eight lost. Each round measures every candidate in turn; the least
+ * time of all rounds counts. See docs/CHANGES.md for figures. */
 #include <stdint.h>
 #include <stdio.h>
 #include <stdlib.h>
@@ -7,16 +8,17 @@
 #include <time.h>
 
 uint32_t gloam_bench_search(const uint8_t *values, size_t values_size, size_t n, uint8_t *bits, size_t bits_size);
+uint32_t gloam_bench_gather(size_t l, const uint8_t *marks, size_t marks_size, const uint8_t *values, size_t values_size, uint8_t *out, size_t out_size);
+void gloam_bench_whiten(uint8_t *bits, size_t bits_size);
+uint32_t gloam_bench_recover(uint64_t l, const uint8_t *marks, size_t marks_size, const uint8_t *values, size_t values_size, uint8_t *message, size_t message_size);
+uint32_t gloam_bench_build(uint64_t l, uint64_t mode, const uint8_t *message, size_t message_size, uint8_t *frame, size_t frame_size);
 
 #ifdef WITH_OSMOCORE
 #include <osmocom/core/bits.h>
 #include <osmocom/core/conv.h>
 #endif
 
-enum { ROUNDS = 21, MOST_BITS = 2066, MOST_VALUES = 3 * (MOST_BITS + 6) };
-
-/* 001's generator words, first bit at the newest input (clause 6.4.6.3). */
-static const unsigned words[3] = {0155, 0123, 0137};
+enum { ROUNDS = 21, MOST_LENGTH = 255, MOST_PACKETS = MOST_LENGTH + 4, MOST_BITS = 2066, MOST_VALUES = 3 * (MOST_BITS + 6) };
 
 static uint64_t seed = 20261115;
 static uint32_t next_random(void)
@@ -27,30 +29,29 @@ static uint32_t next_random(void)
     return (uint32_t)(seed >> 32);
 }
 
-static unsigned parity(unsigned x) { return (unsigned)__builtin_parity(x); }
+/* One message, its frame as it is sent and as it is heard. */
+struct heard_frame {
+    size_t l, packets;
+    uint8_t message[MOST_LENGTH];
+    uint8_t frame[36 * MOST_PACKETS];
+    uint8_t marks[MOST_PACKETS];
+    uint8_t values[24 * MOST_PACKETS];
+};
 
-/* The three coded bits of one step; window has the newest bit highest. */
-static unsigned outputs(unsigned window)
+static void make_frame(struct heard_frame *f, size_t l)
 {
-    return parity(window & words[0]) << 2 | parity(window & words[1]) << 1 | parity(window & words[2]);
-}
-
-/* A string of n random bits, coded, heard with noise and with one sub-packet in eight lost. */
-static void make_values(size_t n, uint8_t *sent, int8_t *values)
-{
-    unsigned state = 0;
-    for (size_t t = 0; t < n + 6; t++) {
-        unsigned bit = t < n ? next_random() & 1 : 0;
-        if (t < n)
-            sent[t] = (uint8_t)bit;
-        unsigned out = outputs(bit << 6 | state);
-        state = (bit << 6 | state) >> 1;
-        for (int k = 0; k < 3; k++) {
+    f->l = l;
+    f->packets = l + 4;
+    for (size_t k = 0; k < l; k++)
+        f->message[k] = (uint8_t)next_random();
+    if (gloam_bench_build(l, 1, f->message, l, f->frame, 36 * f->packets) != 0)
+        exit(2);
+    for (size_t s = 0; s < f->packets; s++) {
+        f->marks[s] = next_random() % 8 != 0;
+        for (size_t p = 0; p < 24; p++) {
             int strength = 40 + (int)(next_random() % 60) - (int)(next_random() % 60);
-            int value = (out >> (2 - k) & 1) ? strength : -strength;
-            if (next_random() % 8 == 0)
-                value = 0;
-            values[3 * t + k] = (int8_t)(value > 127 ? 127 : value < -127 ? -127 : value);
+            int value = f->frame[36 * s + (p < 12 ? p : p + 12)] ? strength : -strength;
+            f->values[24 * s + p] = (uint8_t)(int8_t)(value > 127 ? 127 : value < -127 ? -127 : value);
         }
     }
 }
@@ -65,6 +66,16 @@ static double now_ns(void)
 #ifdef WITH_OSMOCORE
 static uint8_t next_output[64][2];
 static uint8_t next_state[64][2];
+
+/* 001's generator words, first bit at the newest input (clause 6.4.6.3): the three coded bits of a step, the newest bit highest in its window. */
+static unsigned outputs(unsigned window)
+{
+    static const unsigned words[3] = {0155, 0123, 0137};
+    unsigned out = 0;
+    for (int k = 0; k < 3; k++)
+        out = out << 1 | (unsigned)__builtin_parity(window & words[k]);
+    return out;
+}
 
 static void make_osmo_code(struct osmo_conv_code *code, size_t n)
 {
@@ -88,16 +99,33 @@ static void make_osmo_code(struct osmo_conv_code *code, size_t n)
 #endif
 
 struct times {
-    double ours, theirs;
+    double recover, gather, search, whiten, build, theirs;
 };
 
-static struct times measure(size_t n, int repeats)
+/* The time of one call of WHAT, in ns, where it is less than the least so far. */
+#define MEASURE(least, repeats, what)                              \
+    do {                                                           \
+        double start_ = now_ns();                                  \
+        for (int r_ = 0; r_ < (repeats); r_++)                     \
+            what;                                                  \
+        double took_ = (now_ns() - start_) / (repeats);            \
+        (least) = took_ < (least) ? took_ : (least);               \
+    } while (0)
+
+static void must(uint32_t refusal)
 {
-    static uint8_t sent[MOST_BITS], bits[MOST_BITS];
-    static int8_t values[MOST_VALUES];
-    struct times best = {1e18, 1e18};
-    size_t count = 3 * (n + 6);
-    make_values(n, sent, values);
+    if (refusal == UINT32_MAX)
+        exit(2);
+}
+
+static struct times measure(size_t l, int repeats)
+{
+    static struct heard_frame f;
+    static uint8_t received[MOST_VALUES], bits[MOST_BITS], message[MOST_LENGTH], frame[36 * MOST_PACKETS];
+    struct times best = {1e18, 1e18, 1e18, 1e18, 1e18, 1e18};
+    size_t n = 26 + 8 * l, count = 3 * (n + 6);
+    make_frame(&f, l);
+    must(gloam_bench_gather(l, f.marks, f.packets, f.values, 24 * f.packets, received, count));
 #ifdef WITH_OSMOCORE
     static sbit_t soft[MOST_VALUES];
     static ubit_t decoded[MOST_BITS];
@@ -105,29 +133,25 @@ static struct times measure(size_t n, int repeats)
     make_osmo_code(&code, n);
     /* libosmocore takes a positive value for 0. */
     for (size_t k = 0; k < count; k++)
-        soft[k] = (sbit_t)-values[k];
+        soft[k] = (sbit_t)-(int8_t)received[k];
 #endif
     for (int round = 0; round < ROUNDS; round++) {
-        double start = now_ns();
-        for (int r = 0; r < repeats; r++)
-            if (gloam_bench_search((const uint8_t *)values, count, n, bits, n) == UINT32_MAX)
-                exit(2);
-        double took = (now_ns() - start) / repeats;
-        best.ours = took < best.ours ? took : best.ours;
+        MEASURE(best.recover, repeats, must(gloam_bench_recover(l, f.marks, f.packets, f.values, 24 * f.packets, message, l)));
 #ifdef WITH_OSMOCORE
-        start = now_ns();
-        for (int r = 0; r < repeats; r++)
-            osmo_conv_decode(&code, soft, decoded);
-        took = (now_ns() - start) / repeats;
-        best.theirs = took < best.theirs ? took : best.theirs;
+        MEASURE(best.theirs, repeats, osmo_conv_decode(&code, soft, decoded));
 #endif
+        MEASURE(best.search, repeats, must(gloam_bench_search(received, count, n, bits, n)));
+        MEASURE(best.gather, repeats, must(gloam_bench_gather(l, f.marks, f.packets, f.values, 24 * f.packets, received, count)));
+        MEASURE(best.whiten, repeats, gloam_bench_whiten(bits, n));
+        MEASURE(best.build, repeats, must(gloam_bench_build(l, 1, f.message, l, frame, 36 * f.packets)));
     }
-    if (memcmp(sent, bits, n) != 0)
-        printf("note: with this noise the nearest string of %zu bits is not the one sent\n", n);
+    must(gloam_bench_search(received, count, n, bits, n));
 #ifdef WITH_OSMOCORE
     if (memcmp(bits, decoded, n) != 0)
         printf("note: libosmocore decodes another string of %zu bits\n", n);
 #endif
+    if (gloam_bench_recover(l, f.marks, f.packets, f.values, 24 * f.packets, message, l) != 0 || memcmp(message, f.message, l) != 0)
+        printf("note: with this noise the message of %zu bytes is not the one sent\n", l);
     return best;
 }
 
@@ -135,17 +159,19 @@ int main(void)
 {
     static const size_t lengths[] = {20, 50, 100, 150, 200, 255};
     double ratio20 = 0, ratio255 = 0;
-    printf("L    n     search, ns   ns a step   libosmocore, ns   ratio\n");
+    printf("times in ns; a step of the trellis is one payload or tail bit; rest = checks, silence, opening\n");
+    printf("L    recover  search   gather  whiten  rest    build    search a step  recover a step  libosmocore  search ratio  recover ratio\n");
     for (size_t i = 0; i < sizeof lengths / sizeof *lengths; i++) {
         size_t l = lengths[i], n = 26 + 8 * l;
-        struct times t = measure(n, (int)(400000 / n) + 1);
+        struct times t = measure(l, (int)(200000 / n) + 1);
+        double steps = (double)(n + 6), rest = t.recover - t.search - t.gather - t.whiten;
+        printf("%-4zu %-8.0f %-8.0f %-7.0f %-7.0f %-7.0f %-8.0f %-14.2f %-15.2f ", l, t.recover, t.search, t.gather, t.whiten, rest, t.build, t.search / steps, t.recover / steps);
 #ifdef WITH_OSMOCORE
-        double ratio = t.ours / t.theirs;
-        printf("%-4zu %-5zu %-12.0f %-11.2f %-17.0f %.2f\n", l, n, t.ours, t.ours / (double)(n + 6), t.theirs, ratio);
-        ratio20 = l == 20 ? ratio : ratio20;
-        ratio255 = l == 255 ? ratio : ratio255;
+        printf("%-12.0f %-13.2f %.2f\n", t.theirs, t.search / t.theirs, t.recover / t.theirs);
+        ratio20 = l == 20 ? t.recover / t.theirs : ratio20;
+        ratio255 = l == 255 ? t.recover / t.theirs : ratio255;
 #else
-        printf("%-4zu %-5zu %-12.0f %-11.2f not measured      -\n", l, n, t.ours, t.ours / (double)(n + 6));
+        printf("not measured -             -\n");
 #endif
     }
 #ifdef WITH_OSMOCORE

@@ -116,3 +116,6 @@ demand-3 =
       returned = λ {mode} {message} {marks} {values} {before} s f h p.
         returned-of s f (refusal-none message mode marks values (length before) s f h) (message-sent message mode marks values (length before) s f h) (mode-sent message mode marks values (length before) s f h) p
     }
+
+pub recover-taken : (l : ℕ) (marks values : List ℕ) (room : ℕ) → recoverRefusal l marks values room ≡ 0 → Taken l marks values room
+recover-taken l marks values room z = taken-first (recover-first l marks values room) z

@@ -9,3 +9,5 @@ pub mod Judged
 pub mod Forms
 pub mod Building
 pub mod Recovering
+pub mod Clean
+pub mod ShutOut

@@ -14,13 +14,19 @@ use lib.Seq.{ext-getD, getD-take, getD-drop}
 use Rattle.interleave.specs.Interleave.{codedBits, packetOf, symbolOf, Length}
 use Rattle.interleave.specs.Bursts.{valueOf, heard, firsts, received}
 use Rattle.interleave.proofs.Placed.{placed-here, placed-data}
-use Rattle.uplink.specs.Recover.{zeros, silent}
+use Rattle.uplink.specs.Recover.{zeros, silent, marksGood}
+use Rattle.uplink.specs.Build.{lengthWrong}
+use Rattle.uplink.specs.Recover.{opened, nearestCost, recoverRefusal, Recovers}
+use Rattle.uplink.specs.Demands.{Alike}
+use Rattle.uplink.specs.declared.Recovered.{Recovered}
 use Rattle.uplink.proofs.Silence.{valueOf-below}
-
--- the same number of values, and the same ones in every sub-packet that is heard
-pub record Alike (marks values others : List ℕ) : Type 0 where
-  pub sized : length values ≡ length others
-  pub same : (s p : ℕ) → p < 24 → getD marks s 0 ≡ 1 → getD values (24 * s + p) 0 ≡ getD others (24 * s + p) 0
+use Rattle.uplink.proofs.Refusals.{recover-short, recover-long}
+use Rattle.coder.specs.Coder.{uplinkWords}
+use Rattle.coder.specs.Cost.{cost}
+use Rattle.coder.specs.Nearest.{nearest}
+use Rattle.whiten.specs.Whiten.{whitened}
+use Rattle.payload.specs.Payload.{payloadBits}
+use Rattle.payload.specs.Open.{openRefusal, messageOf, modeOf}
 
 firsts-same : (n : ℕ) (f g : ℕ → ℕ) → ((j : ℕ) → j < n → f j ≡ g j) → firsts n f ≡ firsts n g
 unfolding firsts
@@ -64,3 +70,45 @@ silent-alike (m ∷ ms) values others a =
             let z : 24 * suc s + p ≡ 24 + (24 * s + p) = omega arith in
             getD-drop 24 values (24 * s + p) 0 ∙ (rw z at (a .same (suc s) p h e)) ∙ sym (getD-drop 24 others (24 * s + p) 0)
         }
+
+module _ {l : ℕ} {marks values others : List ℕ} (a : Alike marks values others) where
+  opened-alike : Length l → opened l marks values ≡ opened l marks others
+  opened-alike h = ap (λ (v : List ℕ). whitened (nearest (cost uplinkWords v) (payloadBits l))) (received-alike l marks values others h a)
+
+  cost-alike : Length l → nearestCost l marks values ≡ nearestCost l marks others
+  cost-alike h = ap (λ (v : List ℕ). cost uplinkWords v (nearest (cost uplinkWords v) (payloadBits l))) (received-alike l marks values others h a)
+
+  refusal-alike : Length l → (room : ℕ) → recoverRefusal l marks values room ≡ recoverRefusal l marks others room
+  unfolding recoverRefusal
+  refusal-alike h room = rw (a .sized, silent-alike marks values others a, opened-alike h)
+
+  -- what answers the one call answers the other
+  recovers-told : Length l → {before after : List ℕ} {answer : Recovered} → Recovers l marks others before after answer → Recovers l marks values before after answer
+  recovers-told h {before} p =
+      let e = refusal-alike h (length before) in
+      record {
+        refusal = p .refusal ∙ sym e;
+        told = p .told ∙ ap (λ (r : ℕ). cond (eqb r 0) l 0) (sym e);
+        mode = p .mode ∙ ap₂ (λ (r : ℕ) (x : List Bool). cond (eqb r 0) (modeOf l x) 0) (sym e) (sym (opened-alike h));
+        weight = p .weight ∙ ap₂ (λ (r c : ℕ). cond (eqb r 0) c 0) (sym e) (sym (cost-alike h));
+        message = p .message ∙ ap₂ (λ (r : ℕ) (x : List Bool). cond (eqb r 0) (messageOf l x ++ drop l before) before) (sym e) (sym (opened-alike h))
+      }
+
+  -- a wrong length is refused alike
+  recovers-wrong : ((vs : List ℕ) (room : ℕ) → recoverRefusal l marks vs room ≡ 1) → {before after : List ℕ} {answer : Recovered} → Recovers l marks others before after answer → Recovers l marks values before after answer
+  recovers-wrong one {before} p =
+      record {
+        refusal = p .refusal ∙ one others (length before) ∙ sym (one values (length before));
+        told = p .told ∙ rw (one others (length before), one values (length before));
+        mode = p .mode ∙ rw (one others (length before), one values (length before));
+        weight = p .weight ∙ rw (one others (length before), one values (length before));
+        message = p .message ∙ rw (one others (length before), one values (length before))
+      }
+
+  pub recovers-alike : {before after : List ℕ} {answer : Recovered} → Recovers l marks others before after answer → Recovers l marks values before after answer
+  recovers-alike {before} {after} {answer} p = go (decLt l 20) (decLt 255 l)
+    where
+      go : Dec (l < 20) → Dec (255 < l) → Recovers l marks values before after answer
+      go (yes h) d = recovers-wrong (λ vs room. recover-short l marks vs room h) p
+      go (no h) (yes d) = recovers-wrong (λ vs room. recover-long l marks vs room d) p
+      go (no h) (no d) = recovers-told (record { low = omega arith; high = omega arith }) p

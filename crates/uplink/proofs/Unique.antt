@@ -67,7 +67,7 @@ recovered-same (Recovered-is.Refused x) (Recovered-is.Refused y) r e f g z = ap 
 recovered-same (Recovered-is.Done l m c) (Recovered-is.Refused y) r e f g z = absurd (omega (arith, z refl))
 recovered-same (Recovered-is.Refused x) (Recovered-is.Done l m c) r e f g z = absurd (omega (arith, z r))
 
-recover-told : {l : ℕ} {marks values : List ℕ} {room k : ℕ} → FirstRecover l marks values room k → k ≡ 0 → 20 ≤ l
+pub recover-told : {l : ℕ} {marks values : List ℕ} {room k : ℕ} → FirstRecover l marks values room k → k ≡ 0 → 20 ≤ l
 recover-told (FirstRecover.short h) e = absurd (omega arith)
 recover-told (FirstRecover.long h) e = absurd (omega arith)
 recover-told (FirstRecover.marks h d) e = absurd (omega arith)

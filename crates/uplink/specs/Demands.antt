@@ -6,7 +6,7 @@ use mathlib.Core.Path.{_≡_}
 use Prim.Native.Nat.{ℕ, _+_, _*_, _≤_, _<_}
 use lib.ListN.{length, getD, take, drop}
 use Rattle.coder.specs.Coder.{coded, uplinkWords}
-use Rattle.coder.specs.Cost.{cost, apart}
+use Rattle.coder.specs.Cost.{against, cost, apart}
 use Rattle.coder.specs.Nearest.{NotAfter}
 use Rattle.whiten.specs.Whiten.{whitened}
 use Rattle.interleave.specs.Interleave.{codedBits, Length}
@@ -121,3 +121,64 @@ pub record Demand3 : Type 0 where
           < apart (codedPayload message mode) (coded uplinkWords y) (received (length message) marks values))
       → Recovers (length message) marks values before after answer
       → Returned message mode before after answer
+
+-- document 01, "What the contracts have to rule out": no second answer, and no second state of the lent buffer, satisfies a contract
+pub record NoSecond : Type 0 where
+  pub buildAnswer :
+    {l mode : ℕ} {message before after after′ : List ℕ} {answer answer′ : Built}
+      → Builds l mode message before after answer → Builds l mode message before after′ answer′ → answer ≡ answer′
+  pub buildBuffer :
+    {l mode : ℕ} {message before after after′ : List ℕ} {answer answer′ : Built}
+      → Builds l mode message before after answer → Builds l mode message before after′ answer′ → after ≡ after′
+  pub recoverAnswer :
+    {l : ℕ} {marks values before after after′ : List ℕ} {answer answer′ : Recovered}
+      → Recovers l marks values before after answer → Recovers l marks values before after′ answer′ → answer ≡ answer′
+  pub recoverBuffer :
+    {l : ℕ} {marks values before after after′ : List ℕ} {answer answer′ : Recovered}
+      → Recovers l marks values before after answer → Recovers l marks values before after′ answer′ → after ≡ after′
+
+-- the same number of values, and the same ones in every sub-packet that is heard
+pub record Alike (marks values others : List ℕ) : Type 0 where
+  pub sized : length values ≡ length others
+  pub same : (s p : ℕ) → p < 24 → getD marks s 0 ≡ 1 → getD values (24 * s + p) 0 ≡ getD others (24 * s + p) 0
+
+-- document 01, "From soft values to message": what lost sub-packets, zeros and costs are worth
+pub record SoftValues : Type 0 where
+  -- "All values of a lost sub-packet count as zero, and two runs that differ only there answer alike."
+  pub lostAnswer :
+    {l : ℕ} {marks values others before after after′ : List ℕ} {answer answer′ : Recovered}
+      → Alike marks values others → Recovers l marks values before after answer → Recovers l marks others before after′ answer′ → answer ≡ answer′
+  pub lostBuffer :
+    {l : ℕ} {marks values others before after after′ : List ℕ} {answer answer′ : Recovered}
+      → Alike marks values others → Recovers l marks values before after answer → Recovers l marks others before after′ answer′ → after ≡ after′
+  -- "A zero says nothing."
+  pub zeroSaysNothing : (b : Bool) → against b 0 ≡ 0
+  -- the cost is "at most 795,648"
+  pub most :
+    {l : ℕ} {marks values before after : List ℕ} {answer : Recovered}
+      → Recovers l marks values before after answer → recoveredCost answer ≤ 795648
+
+-- any program for build: its answer and what it leaves in the buffer, for every input
+pub record Builder : Type 0 where
+  pub answer : (l mode : ℕ) (message before : List ℕ) → Built
+  pub after : (l mode : ℕ) (message before : List ℕ) → List ℕ
+  pub meets : (l mode : ℕ) (message before : List ℕ) → Builds l mode message before (after l mode message before) (answer l mode message before)
+
+-- any program for recover
+pub record Recoverer : Type 0 where
+  pub answer : (l : ℕ) (marks values before : List ℕ) → Recovered
+  pub after : (l : ℕ) (marks values before : List ℕ) → List ℕ
+  pub meets : (l : ℕ) (marks values before : List ℕ) → Recovers l marks values before (after l marks values before) (answer l marks values before)
+
+-- the programs that document 01 shuts out by name do not meet the contracts
+pub record ShutOut : Type 0 where
+  pub refusesEveryBuild : (b : Builder) → ((l mode : ℕ) (message before : List ℕ) → builtRefusal (b .answer l mode message before) ≡ 0 → ⊥) → ⊥
+  pub givesOneFrame :
+    (b : Builder) (frame : List ℕ)
+      → ((l mode : ℕ) (message before : List ℕ) → builtRefusal (b .answer l mode message before) ≡ 0 → take (frameSize l) (b .after l mode message before) ≡ frame) → ⊥
+  pub buildsNothing : (b : Builder) → ((l mode : ℕ) (message before : List ℕ) → b .after l mode message before ≡ before) → ⊥
+  pub refusesEveryFrame : (r : Recoverer) → ((l : ℕ) (marks values before : List ℕ) → recoveredRefusal (r .answer l marks values before) ≡ 0 → ⊥) → ⊥
+  pub returnsOneMessage :
+    (r : Recoverer) (message : List ℕ)
+      → ((l : ℕ) (marks values before : List ℕ) → recoveredRefusal (r .answer l marks values before) ≡ 0 → take l (r .after l marks values before) ≡ message) → ⊥
+  pub recoversNothing : (r : Recoverer) → ((l : ℕ) (marks values before : List ℕ) → r .after l marks values before ≡ before) → ⊥

@@ -1,9 +1,9 @@
--- `bench_search::gloam_bench_search` meets its contract. Assumes nothing.
+-- `bench::gloam_bench_search` meets its contract. Assumes nothing.
 use mathlib.Core.Path.{_≡_, refl}
 use native.Mathlib.Omega.{arith}
 use borrow.Author.Needs.{needs}
-use Rattle.bench_search.proofs.gloam_bench_search.Statement.{statement}
-use Rattle.bench_search.proofs.gloam_bench_search.Tie as tie
+use Rattle.bench.proofs.gloam_bench_search.Statement.{statement}
+use Rattle.bench.proofs.gloam_bench_search.Tie as tie
 
 returns : tie.Need-returns
 returns c = record { found = λ h l. absurd (omega (arith, h .most, c .if1 .taken)); refused = λ d. (refl, refl) }
