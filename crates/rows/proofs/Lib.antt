@@ -1,5 +1,5 @@
 pub mod Lists
 pub mod Weighs
 pub mod Step
-pub mod Octet
+pub mod Decided
 pub mod Fill

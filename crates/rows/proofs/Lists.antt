@@ -1,15 +1,17 @@
 -- A list made of the first values of a function, read at a place; stores into a list, one after the other.
 -- Assumes nothing.
-use mathlib.Core.List.{List, [], _∷_, _++_}
+use mathlib.Core.Bool.{Bool, cond}
+use mathlib.Core.List.{List, [], _∷_}
 use mathlib.Core.Logic.{⊎-elim}
-use mathlib.Core.Path.{_≡_, refl, sym, ap, subst, _∙_}
-use Prim.Native.Nat.{ℕ, zero, suc, _+_, _<_}
+use mathlib.Core.Path.{_≡_, refl, ap, _∙_}
+use Prim.Native.Nat.{ℕ, zero, suc, _+_, _-_, _<_}
 use native.Mathlib.Nat.{eq-or-lt-of-le, le-of-suc-le-suc, not-suc-le-zero}
 use native.Mathlib.Omega.{arith}
 use borrow.Author.Count.{below-more}
+use borrow.Author.Tests.{lt-ltb, le-ltb}
 use lib.ListN.{length, getD, set, length-append, List·getD-append}
 use lib.Seq.{getD-at, getD-set-same, getD-set-other}
-use Rattle.rows.specs.Rows.{firsts}
+use Rattle.rows.specs.Rows.{firsts, pairAt, pairsOf}
 
 pub length-firsts : (n : ℕ) (f : ℕ → ℕ) → length (firsts n f) ≡ n
 unfolding firsts
@@ -27,7 +29,7 @@ getD-firsts (suc n) f k h =
 
 -- stores of f 0, f 1, .. at the places g 0, g 1, ..: one more
 pub set-grows :
-  (l : List ℕ) (g f : ℕ → ℕ) (j v : ℕ)
+    (l : List ℕ) (g f : ℕ → ℕ) (j v : ℕ)
     → g j < length l
     → ((k : ℕ) → k < j → g k ≡ g j → ⊥)
     → ((k : ℕ) → k < j → getD l (g k) 0 ≡ f k)
@@ -40,8 +42,22 @@ set-grows l g f j v h apart old new =
 
 -- and a store elsewhere
 pub set-keeps :
-  (l : List ℕ) (g f : ℕ → ℕ) (i v n : ℕ)
+    (l : List ℕ) (g f : ℕ → ℕ) (i v n : ℕ)
     → ((k : ℕ) → k < n → g k ≡ i → ⊥)
     → ((k : ℕ) → k < n → getD l (g k) 0 ≡ f k)
     → (k : ℕ) → k < n → getD (set l i v) (g k) 0 ≡ f k
 set-keeps l g f i v n apart old k b = getD-set-other l i (g k) v 0 (apart k b) ∙ old k b
+
+-- the costs of the pairs in the first half and in the second
+module _ (low high : List ℕ) (all : ℕ) where
+  pub pairsOf-low : (j : ℕ) → j < 16 → getD (pairsOf low high all) j 0 ≡ getD low j 0
+  pairsOf-low j h =
+      getD-firsts 32 (pairAt low high all) j (omega arith)
+      ∙ ap (λ (t : Bool). cond t (getD low j 0) (all - getD high (j - 16) 0)) (lt-ltb j 16 h)
+
+  pub pairsOf-high : (j : ℕ) → j < 16 → getD (pairsOf low high all) (j + 16) 0 ≡ all - getD high j 0
+  pairsOf-high j h =
+      let e : j + 16 - 16 ≡ j = omega arith in
+      getD-firsts 32 (pairAt low high all) (j + 16) (omega arith)
+      ∙ ap (λ (t : Bool). cond t (getD low (j + 16) 0) (all - getD high (j + 16 - 16) 0)) (le-ltb (j + 16) 16 (omega arith))
+      ∙ ap (λ (q : ℕ). all - getD high q 0) e

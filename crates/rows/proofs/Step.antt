@@ -2,20 +2,20 @@
 -- Assumes nothing.
 use mathlib.Core.Bool.{Bool, true, false}
 use mathlib.Core.List.{List, [], _∷_}
-use mathlib.Core.Path.{_≡_, refl, sym, ap, subst, _∙_}
-use Prim.Native.Nat.{ℕ, suc, _+_, _-_, _*_, _/_, _%_, _≤_, _<_, min}
+use mathlib.Core.Path.{_≡_, refl, ap, subst, _∙_}
+use Prim.Native.Nat.{ℕ, suc, _+_, _-_, _*_, _/_, _%_, _<_}
 use native.Mathlib.Decide.{decLt}
 use native.Mathlib.Omega.{arith}
 use borrow.Author.Tests.{ltb-true, ltb-false}
 use lib.Dec.{ltb}
-use lib.ListN.{length, getD}
+use lib.ListN.{getD}
 use Rattle.bits.specs.Bits.{bit}
 use Rattle.coder.specs.Coder.{uplinkWords}
 use Rattle.coder.specs.Cost.{distance}
 use Rattle.trellis.specs.Machine.{rem, takes}
 use Rattle.trellis.specs.Numbered.{price, open64}
-use Rattle.rows.specs.Rows.{Weighs, Summed, Least, Chosen}
-use Rattle.rows.specs.Remaining.{facing, Costs, stateAt, taken}
+use Rattle.rows.specs.Rows.{Weighs, Summed, Least, Chosen, chooses}
+use Rattle.rows.specs.Remaining.{facing, Costs, taken}
 
 -- only the next three values count for a step
 price-three : (x : Bool) (s a b c : ℕ) (rest : List ℕ) → price uplinkWords (a ∷ b ∷ c ∷ rest) x s ≡ price uplinkWords (a ∷ b ∷ c ∷ []) x s
@@ -33,7 +33,7 @@ ltb-add a b c d o e f = go (ltb a b) refl (ltb c d) refl
     go false h true l = absurd (omega (arith, ltb-true, ltb-false))
 
 module _ (a b c : ℕ) (rest : List ℕ) (k off all : ℕ) (row pairs zero one : List ℕ)
-         (costs : Costs rest k row off) (w : Weighs (a ∷ b ∷ c ∷ []) pairs all) (m : Summed 32 row pairs all zero one) where
+    (costs : Costs rest k row off) (w : Weighs (a ∷ b ∷ c ∷ []) pairs all) (m : Summed row pairs all zero one) where
   abbrev remaining : ℕ → ℕ
   remaining s = rem (open64 uplinkWords) k (facing rest s)
 
@@ -68,8 +68,10 @@ module _ (a b c : ℕ) (rest : List ℕ) (k off all : ℕ) (row pairs zero one :
     where
       even : (j : ℕ) → j < 32 → getD next (2 * j) 0 + off ≡ rem (open64 uplinkWords) (suc k) (facing (a ∷ b ∷ c ∷ rest) (2 * j))
       even j h = omega (arith, l .even j h, move-even0 j h, move-even1 j h)
+
       odd : (j : ℕ) → j < 32 → getD next (2 * j + 1) 0 + off ≡ rem (open64 uplinkWords) (suc k) (facing (a ∷ b ∷ c ∷ rest) (2 * j + 1))
       odd j h = omega (arith, l .odd j h, move-odd0 j h, move-odd1 j h)
+
       each : (s : ℕ) → s < 64 → Dec (s % 2 < 1) → getD next s 0 + off ≡ rem (open64 uplinkWords) (suc k) (facing (a ∷ b ∷ c ∷ rest) s)
       each s h (yes z) =
           let e : 2 * (s / 2) ≡ s = omega arith in
@@ -78,21 +80,21 @@ module _ (a b c : ℕ) (rest : List ℕ) (k off all : ℕ) (row pairs zero one :
           let e : 2 * (s / 2) + 1 ≡ s = omega arith in
           subst (λ (q : ℕ). getD next q 0 + off ≡ rem (open64 uplinkWords) (suc k) (facing (a ∷ b ∷ c ∷ rest) q)) e (odd (s / 2) (omega arith))
 
-  -- each byte has the machine's decision in its lowest bit
-  pub chosen-step : {old next : List ℕ} → Chosen 64 zero one old next → (p : ℕ) → p < 64 → getD next p 0 ≡ 2 * (getD old p 0 % 128) + bit (taken (a ∷ b ∷ c ∷ rest) k p)
+  -- each word has the machine's decision in its lowest bit
+  pub chosen-step :
+      {old new : List ℕ} {place : ℕ} → Chosen 64 zero one old place new → (p : ℕ) → p < 64
+      → getD new (place + p) 0 ≡ 2 * (getD old (place + p) 0 % 32768) + bit (taken (a ∷ b ∷ c ∷ rest) k p)
   unfolding takes
-  chosen-step {old} {next} g p h = each (decLt p 32)
+  chosen-step {old} {new} {place} g p h = g .inside p h ∙ ap (λ (d : Bool). 2 * (getD old (place + p) 0 % 32768) + bit d) (each (decLt p 32))
     where
-      each : Dec (p < 32) → getD next p 0 ≡ 2 * (getD old p 0 % 128) + bit (taken (a ∷ b ∷ c ∷ rest) k p)
+      each : Dec (p < 32) → chooses zero one p ≡ taken (a ∷ b ∷ c ∷ rest) k p
       each (yes z) =
-          g .each p h
-          ∙ ap (λ (d : Bool). 2 * (getD old p 0 % 128) + bit d) (ltb-add _ _ _ _ off (move-even1 p z) (move-even0 p z))
-          ∙ ap (λ (s : ℕ). 2 * (getD old p 0 % 128) + bit (takes (open64 uplinkWords) k (facing (a ∷ b ∷ c ∷ rest) s))) (omega arith)
+          ltb-add _ _ _ _ off (move-even1 p z) (move-even0 p z)
+          ∙ ap (λ (s : ℕ). takes (open64 uplinkWords) k (facing (a ∷ b ∷ c ∷ rest) s)) (omega arith)
       each (no z) =
           let j : ℕ = p - 32 in
           let e : j + 32 ≡ p = omega arith in
           let l : j < 32 = omega arith in
-          subst (λ (q : ℕ). getD next q 0 ≡ 2 * (getD old q 0 % 128) + bit (taken (a ∷ b ∷ c ∷ rest) k p)) e
-          (g .each (j + 32) (omega arith)
-            ∙ ap (λ (d : Bool). 2 * (getD old (j + 32) 0 % 128) + bit d) (ltb-add _ _ _ _ off (move-odd1 j l) (move-odd0 j l))
-            ∙ ap (λ (s : ℕ). 2 * (getD old (j + 32) 0 % 128) + bit (takes (open64 uplinkWords) k (facing (a ∷ b ∷ c ∷ rest) s))) (omega arith))
+          subst (λ (q : ℕ). chooses zero one q ≡ taken (a ∷ b ∷ c ∷ rest) k p) e
+          (ltb-add _ _ _ _ off (move-odd1 j l) (move-odd0 j l)
+          ∙ ap (λ (s : ℕ). takes (open64 uplinkWords) k (facing (a ∷ b ∷ c ∷ rest) s)) (omega arith))

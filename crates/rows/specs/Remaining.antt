@@ -1,4 +1,4 @@
--- The rows as remaining costs, and the bytes that keep the decisions: what the loops of the search say of themselves. Nothing here has to be believed.
+-- The rows as remaining costs, and the words that keep the decisions: what the loops of the search say of themselves. Nothing here has to be believed.
 -- Assumes nothing.
 use mathlib.Core.Bool.{Bool}
 use mathlib.Core.List.{List}
@@ -35,6 +35,10 @@ taken values k p = takes (open64 uplinkWords) k (facing values (stateAt p))
 abbrev pub takenAt : List ℕ → ℕ → ℕ → ℕ → Bool
 takenAt values n t p = taken (drop (3 * t) values) (n + 5 - t) p
 
--- a byte that keeps the decisions at place p of the eight moments from t on, the first in its lowest bit
-pub record Octet (values : List ℕ) (n t p byte : ℕ) : Type 0 where
-  pub bits : (i : ℕ) → i < 8 → t + i < n + 6 → byte / 2 ^ i % 2 ≡ bit (takenAt values n (t + i) p)
+-- what is kept for moment i at place p, when the moments from t on are kept: sixteen moments in a word, the first that is kept in its lowest bit
+abbrev pub keptFrom : List ℕ → ℕ → ℕ → ℕ → ℕ
+keptFrom kept t i p = getD kept (i / 16 * 64 + p) 0 / 2 ^ (i % 16 - (t - i / 16 * 16)) % 2
+
+-- the decisions of the moments from t on are kept
+pub record Decided (values : List ℕ) (n t : ℕ) (kept : List ℕ) : Type 0 where
+  pub each : (i p : ℕ) → p < 64 → t ≤ i → i < n + 6 → keptFrom kept t i p ≡ bit (takenAt values n i p)

@@ -1,36 +1,28 @@
 -- The walk through the kept decisions is the machine's walk, and so the nearest string.
 -- Assumes nothing.
-use mathlib.Core.Bool.{Bool, true, false}
+use mathlib.Core.Bool.{Bool}
 use mathlib.Core.List.{List, [], _∷_, _++_, map, append-assoc, append-nil}
-use mathlib.Core.Path.{_≡_, refl, sym, ap, subst, _∙_}
-use Prim.Native.Nat.{ℕ, zero, suc, _+_, _-_, _*_, _/_, _%_, _^_, _≤_, _<_}
+use mathlib.Core.Path.{_≡_, refl, sym, ap, _∙_}
+use Prim.Native.Nat.{ℕ, zero, suc, _+_, _-_, _*_, _≤_, _<_}
 use native.Mathlib.Numerals.{add-one}
 use native.Mathlib.Omega.{arith}
-use lib.ListN.{length, getD, set, take, drop, length-set, take-append-drop}
+use lib.ListN.{length, set, take, drop, length-set, take-append-drop}
 use lib.Seq.{drop-drop, drop-set-lt, take-suc-set}
 use Rattle.bits.specs.Bits.{bit, isOne}
 use Rattle.bits.proofs.Bits.{isOne-bit, bit-isOne}
 use Rattle.coder.specs.Coder.{uplinkWords}
 use Rattle.coder.specs.Cost.{cost}
 use Rattle.coder.specs.Nearest.{nearest}
-use Rattle.coder.specs.Register.{shifted}
 use Rattle.coder.proofs.Register.{uplinkWords-short}
 use Rattle.trellis.specs.Machine.{walk, takes}
-use Rattle.trellis.specs.Numbered.{At, open64, numbered}
+use Rattle.trellis.specs.Numbered.{open64, numbered}
 use Rattle.trellis.proofs.Tail.{takes-open-later}
 use Rattle.trellis.proofs.Numbered.{walk-numbered}
-use Rattle.rows.specs.Remaining.{facing, stateAt, placeAfter, takenAt, Octet}
-use Rattle.rows.proofs.Octet.{stateAt-after, placeAfter-below}
+use Rattle.rows.specs.Remaining.{facing, stateAt, placeAfter, takenAt}
+use Rattle.rows.proofs.Decided.{stateAt-after, placeAfter-below}
 use Rattle.search.specs.Search.{Filled, Found, keptAt, follow}
 
 module _ {values kept : List ℕ} {n total : ℕ} (f : Filled values n kept total) where
-  -- what is kept for a moment is what the machine takes there
-  keptAt-taken : (t p : ℕ) → t < n + 6 → t < 2072 → p < 64 → keptAt kept t p ≡ bit (takenAt values n t p)
-  keptAt-taken t p h l m =
-      let e : 8 * (t / 8) + t % 8 ≡ t = omega arith in
-      f .octets (t / 8) p m (omega arith) .bits (t % 8) (omega arith) (omega arith)
-      ∙ ap (λ (q : ℕ). bit (takenAt values n q p)) e
-
   -- the machine's walk of k steps from place p at moment t
   abbrev onward : ℕ → ℕ → ℕ → List Bool
   onward k t p = walk (numbered uplinkWords) k (facing (drop (3 * t) values) (stateAt p))
@@ -53,7 +45,7 @@ module _ {values kept : List ℕ} {n total : ℕ} (f : Filled values n kept tota
   follow-walk zero t p e l h = refl
   follow-walk (suc k) t p e l h =
       let b : Bool = takenAt values n t p in
-      let is : keptAt kept t p ≡ bit b = keptAt-taken t p (omega arith) (omega arith) h in
+      let is : keptAt kept t p ≡ bit b = f .words t p h (omega arith) in
       let taken : takes (numbered uplinkWords) k (facing (drop (3 * t) values) (stateAt p)) ≡ b = takes-taken k t p e in
       ap (λ (q : ℕ). isOne q ∷ follow kept k (t + 1) (placeAfter p q)) is
       ∙ ap (λ (q : Bool). q ∷ follow kept k (t + 1) (placeAfter p (bit b))) (isOne-bit b)
@@ -83,14 +75,14 @@ walking-start kept n bits =
       within = omega arith;
       sized = refl;
       whole = λ k e. start k (omega arith);
-      rest = refl
+      rest = refl;
     }
   where
     start : (k : ℕ) → k ≡ n → map bit (follow kept k 0 0) ≡ map bit (follow kept n 0 0)
     start k e = ap (λ (q : ℕ). map bit (follow kept q 0 0)) e
 
 pub walking-step :
-  {kept before bits : List ℕ} {n t p : ℕ} → Walking kept n before t p bits → t < n → n ≤ length before
+    {kept before bits : List ℕ} {n t p : ℕ} → Walking kept n before t p bits → t < n → n ≤ length before
     → Walking kept n before (t + 1) (placeAfter p (keptAt kept t p)) (set bits t (keptAt kept t p))
 unfolding follow
 walking-step {kept} {before} {bits} {n} {t} {p} w h l =
@@ -98,13 +90,15 @@ walking-step {kept} {before} {bits} {n} {t} {p} w h l =
       within = omega arith;
       sized = length-set bits t (keptAt kept t p) ∙ w .sized;
       whole = λ k e. onward k e;
-      rest = drop-set-lt n bits t (keptAt kept t p) h ∙ w .rest
+      rest = drop-set-lt n bits t (keptAt kept t p) h ∙ w .rest;
     }
   where
     v : ℕ
     v = keptAt kept t p
+
     written : take (t + 1) (set bits t v) ≡ take t bits ++ (v ∷ [])
     written = ap (λ (q : ℕ). take q (set bits t v)) (add-one t) ∙ take-suc-set bits t v (omega (arith, w .sized))
+
     onward : (k : ℕ) → k + (t + 1) ≡ n → take (t + 1) (set bits t v) ++ map bit (follow kept k (t + 1) (placeAfter p v)) ≡ map bit (follow kept n 0 0)
     onward k e =
         ap (λ (q : List ℕ). q ++ map bit (follow kept k (t + 1) (placeAfter p v))) written

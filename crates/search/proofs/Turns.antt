@@ -1,18 +1,17 @@
 -- The four functions of a step make one step back in time; a row is lowered without a change of what it says.
 -- Assumes nothing.
 use mathlib.Core.List.{List, [], _∷_}
-use mathlib.Core.Path.{_≡_, refl, sym, ap, subst, _∙_}
-use Prim.Native.Nat.{ℕ, suc, _+_, _-_, _*_, _/_, _%_, _≤_, _<_}
+use mathlib.Core.Path.{_≡_, refl, subst}
+use Prim.Native.Nat.{ℕ, _+_, _-_, _*_, _/_, _%_, _≤_, _<_}
 use native.Mathlib.Decide.{decLt}
 use native.Mathlib.Omega.{arith}
 use lib.ListN.{length, getD}
 use Rattle.rows.specs.Rows.{Weighs, Summed, Least, Chosen, Lowered}
-use Rattle.rows.specs.Remaining.{Costs}
 use Rattle.rows.proofs.Step.{costs-step, chosen-step}
 use Rattle.search.specs.Search.{Turn, Spread, Leveled}
 
-module _ {a b c all : ℕ} {row bytes pairs zero one row′ bytes′ : List ℕ}
-         (w : Weighs (a ∷ b ∷ c ∷ []) pairs all) (m : Summed 32 row pairs all zero one) (l : Least 32 zero one row′) (g : Chosen 64 zero one bytes bytes′) where
+module _ {a b c all place : ℕ} {row kept pairs zero one row′ kept′ : List ℕ}
+    (w : Weighs (a ∷ b ∷ c ∷ []) pairs all) (m : Summed row pairs all zero one) (l : Least 32 zero one row′) (g : Chosen 64 zero one kept place kept′) where
   rise-even : (most j : ℕ) → j < 32 → getD row j 0 ≤ most → getD row′ (2 * j) 0 ≤ most + 384
   rise-even most j h u = omega (arith, l .even j h, m .even0 j h, w .small .within j h, w .small .most)
 
@@ -27,12 +26,14 @@ module _ {a b c all : ℕ} {row bytes pairs zero one row′ bytes′ : List ℕ}
       let e : 2 * (s / 2) + 1 ≡ s = omega arith in
       subst (λ (q : ℕ). getD row′ q 0 ≤ most + 384) e (rise-odd most (s / 2) (omega arith) u)
 
-  pub turn-of : Turn a b c row bytes row′ bytes′
+  pub turn-of : Turn a b c row kept place row′ kept′
   turn-of =
       record {
         costs = λ rest k off p. costs-step a b c rest k off all row pairs zero one p w m l;
         chosen = λ rest k off p. chosen-step a b c rest k off all row pairs zero one p w m g;
-        rise = λ most u s h. rise-each most s h (u (s / 2) (omega arith)) (decLt (s % 2) 1)
+        sized = g .sized;
+        above = g .above;
+        rise = λ most u s h. rise-each most s h (u (s / 2) (omega arith)) (decLt (s % 2) 1);
       }
 
 -- a row that is left as it is
@@ -46,5 +47,5 @@ leveled-lower {row} {row′} {off} p e z l =
       sized = l .sized;
       same = λ s h. omega (arith, l .each s h, p .lowest s h);
       between = λ d s h. absurd (d z);
-      lowered = λ z s h. omega (arith, l .each s h, p .lowest s h)
+      lowered = λ z s h. omega (arith, l .each s h, p .lowest s h);
     }

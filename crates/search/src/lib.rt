@@ -9,25 +9,16 @@ ghost use Rattle.bits.specs.Bits.{bit};
 ghost use Rattle.rows.specs.Rows.{Low};
 ghost use Rattle.search.specs.Search.{Turn, Spread, Leveled, Heard, Filled, Kept, lastRow, follow, Found};
 
-// A row of costs and the last decisions of each state.
-pub struct Turned {
-    pub row: [u16; 64],
-    pub bytes: [u8; 64],
-}
-
-// One step back in time, against the three values of the step.
-fn turn(row: [u16; 64], bytes: [u8; 64], a: u8, b: u8, c: u8) -> Turned
+// One step back in time, against the three values of the step: the row before it; the decisions go into the 64 words from a place on.
+fn turn(row: [u16; 64], a: u8, b: u8, c: u8, kept: &mut [u16], place: usize) -> [u16; 64]
     requires { ⌜ Low row ⌝ }
-    ensures { λ r. ⌜ Turn a b c row bytes (r .row) (r .bytes) ⌝ }
+    requires { ⌜ place + 64 ≤ length (now kept) ⌝ }
+    ensures { λ r. ⌜ Turn a b c row (now (kept .entry)) place r (now (kept .exit)) ⌝ }
 {
     let weighed = step::weigh(a, b, c);
     let moves = step::sums(row, weighed);
-    let least = step::minima(moves);
-    let chosen = step::choices(moves, bytes);
-    Turned {
-        row: least,
-        bytes: chosen,
-    }
+    step::choices(moves, kept, place);
+    step::minima(moves)
 }
 
 // How much can be taken off every cost of a row whose first is given.
@@ -70,23 +61,25 @@ fn last_row() -> [u16; 64]
     row
 }
 
-// Keeps every decision of n steps and the six that follow, and gives the cost of the nearest string.
-fn fill(values: &[u8], n: usize, kept: &mut [u8]) -> u32
+// Keeps every decision of n steps and the six that follow, sixteen moments in a word, and gives the cost of the nearest string.
+fn fill(values: &[u8], n: usize, kept: &mut [u16]) -> u32
     requires { ⌜ Heard (now values) n ⌝ }
-    requires { ⌜ length (now kept) ≡ 16576 ⌝ }
+    requires { ⌜ length (now kept) ≡ 8320 ⌝ }
     ensures { λ r. ⌜ Filled (now (values .entry)) n (now (kept .exit)) r ⌝ }
 {
     let mut row = last_row();
-    let mut bytes = [0u8; 64];
     let mut off: u32 = 0;
     let mut t = n + 6;
     while 0 < t {
         t -= 1;
-        let back = turn(row, bytes, values[3 * t], values[3 * t + 1], values[3 * t + 2]);
-        let next = back.bytes;
-        bytes = next;
-        step::store(next, kept, t / 8 * 64);
-        let least = back.row;
+        let least = turn(
+            row,
+            values[3 * t],
+            values[3 * t + 1],
+            values[3 * t + 2],
+            kept,
+            t / 16 * 64,
+        );
         let level = leveled(least, off, t);
         let low = level.row;
         row = low;
@@ -96,16 +89,16 @@ fn fill(values: &[u8], n: usize, kept: &mut [u8]) -> u32
 }
 
 // Walks forward through the decisions from state 0 and writes the n bits that are taken. A place is where a state's decision stands.
-fn walk(kept: &[u8], n: usize, bits: &mut [u8])
+fn walk(kept: &[u16], n: usize, bits: &mut [u8])
     requires { ⌜ Kept (now kept) n (now bits) ⌝ }
     ensures { λ r. ⌜ now (bits .exit) ≡ map bit (follow (now (kept .entry)) n 0 0) ++ drop n (now (bits .entry)) ⌝ }
 {
     let mut place = 0;
     let mut t = 0;
     while t < n {
-        let byte = kept[t / 8 * 64 + place];
-        let b = (byte >> (t % 8)) % 2;
-        bits[t] = b;
+        let word = kept[t / 16 * 64 + place];
+        let b = (word >> (t % 16)) % 2;
+        bits[t] = b as u8;
         place = place % 32 % 2 * 32 + place % 32 / 2 + (b as usize) * 16;
         t += 1;
     }
@@ -117,7 +110,7 @@ pub fn search(values: &[u8], n: usize, bits: &mut [u8]) -> u32
     requires { ⌜ n ≤ length (now bits) ⌝ }
     ensures { λ r. ⌜ Found (now (values .entry)) n (now (bits .entry)) (now (bits .exit)) r ⌝ }
 {
-    let mut kept = [0u8; 16576];
+    let mut kept = [0u16; 8320];
     let cost = fill(values, n, &mut kept);
     walk(&kept, n, bits);
     cost

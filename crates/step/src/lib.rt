@@ -7,7 +7,7 @@ ghost use Prim.Native.Nat.{_+_, _≤_, min};
 ghost use lib.Dec.{ltb};
 ghost use lib.ListN.{length};
 ghost use Rattle.bits.specs.Bits.{bit};
-ghost use Rattle.rows.specs.Rows.{Opposes, Six, Arranged, Weighs, Small, Low, Summed, Within, Least, Chosen, AtLeast, Lowered, Stored};
+ghost use Rattle.rows.specs.Rows.{Opposes, Six, Arranged, Split, Halves, Low, Summed, Within, Least, Chosen, AtLeast, Lowered, pairsOf};
 
 // What a value has against a coded bit that is 0.
 fn against_zero(v: u8) -> u16
@@ -23,26 +23,24 @@ fn against_one(v: u8) -> u16
     if v < 128 { 0 } else { 256 - (v as u16) }
 }
 
-// What a step costs: for each pair of states that of taking 0 in the even one, and the weight of all three values.
+// What a step costs: that of taking 0 in the first 16 even states, what is left of the whole by taking 0 in the other 16, and the weight of all three values.
 pub struct Weighed {
-    pub pairs: [u16; 32],
+    pub low: [u16; 16],
+    pub high: [u16; 16],
     pub all: u16,
 }
 
-// The eight sums of a step where 001's words put them. Each bit of a name is the coded bit of one word.
+// Four sums of a step where 001's words put them. Each bit of a name is the coded bit of one word; the other four sums are what is left of the whole.
 fn arranged(a0: u16, a1: u16, b0: u16, b1: u16, c0: u16, c1: u16) -> Weighed
     requires { ⌜ Six a0 a1 b0 b1 c0 c1 ⌝ }
-    ensures { λ r. ⌜ Arranged a0 a1 b0 b1 c0 c1 (r .pairs) (r .all) ⌝ }
+    ensures { λ r. ⌜ Arranged a0 a1 b0 b1 c0 c1 (r .low) (r .high) (r .all) ⌝ }
 {
     let s000 = a0 + b0 + c0;
-    let s001 = a0 + b0 + c1;
-    let s010 = a0 + b1 + c0;
     let s011 = a0 + b1 + c1;
-    let s100 = a1 + b0 + c0;
     let s101 = a1 + b0 + c1;
     let s110 = a1 + b1 + c0;
     let s111 = a1 + b1 + c1;
-    let pairs = [
+    let low = [
         s000,
         s011,
         s101,
@@ -59,32 +57,35 @@ fn arranged(a0: u16, a1: u16, b0: u16, b1: u16, c0: u16, c1: u16) -> Weighed
         s101,
         s011,
         s000,
-        s100,
-        s111,
-        s001,
-        s010,
-        s001,
-        s010,
-        s100,
-        s111,
-        s111,
-        s100,
-        s010,
-        s001,
-        s010,
-        s001,
-        s111,
-        s100,
+    ];
+    let high = [
+        s011,
+        s000,
+        s110,
+        s101,
+        s110,
+        s101,
+        s011,
+        s000,
+        s000,
+        s011,
+        s101,
+        s110,
+        s101,
+        s110,
+        s000,
+        s011,
     ];
     Weighed {
-        pairs,
+        low,
+        high,
         all: s000 + s111,
     }
 }
 
 // The costs of one step against its three values.
 pub fn weigh(a: u8, b: u8, c: u8) -> Weighed
-    ensures { λ r. ⌜ Weighs (a ∷ b ∷ c ∷ []) (r .pairs) (r .all) ⌝ }
+    ensures { λ r. ⌜ Split (a ∷ b ∷ c ∷ []) (r .low) (r .high) (r .all) ⌝ }
 {
     let a0 = against_zero(a);
     let a1 = against_one(a);
@@ -104,23 +105,33 @@ pub struct Moves {
 // The costs of both moves of every state, from the row of the next moment and what the step costs.
 pub fn sums(row: [u16; 64], step: Weighed) -> Moves
     requires { ⌜ Low row ⌝ }
-    requires { ⌜ Small (step .pairs) (step .all) ⌝ }
-    ensures { λ r. ⌜ Summed 32 row (step .pairs) (step .all) (r .zero) (r .one) ⌝ }
+    requires { ⌜ Halves (step .low) (step .high) (step .all) ⌝ }
+    ensures { λ r. ⌜ Summed row (pairsOf (step .low) (step .high) (step .all)) (step .all) (r .zero) (r .one) ⌝ }
 {
-    let pairs = step.pairs;
+    let low = step.low;
+    let high = step.high;
     let all = step.all;
     let mut zero = [0u16; 64];
     let mut one = [0u16; 64];
     let mut j = 0;
-    while j < 32 {
-        let near = pairs[j];
+    while j < 16 {
+        let near = low[j];
         let far = all - near;
-        let low = row[j];
-        let high = row[j + 32];
-        zero[j] = low + near;
-        zero[j + 32] = low + far;
-        one[j] = high + far;
-        one[j + 32] = high + near;
+        let after0 = row[j];
+        let after1 = row[j + 32];
+        zero[j] = after0 + near;
+        zero[j + 32] = after0 + far;
+        one[j] = after1 + far;
+        one[j + 32] = after1 + near;
+        let k = j + 16;
+        let left = high[j];
+        let spent = all - left;
+        let later0 = row[k];
+        let later1 = row[k + 32];
+        zero[k] = later0 + spent;
+        zero[k + 32] = later0 + left;
+        one[k] = later1 + left;
+        one[k + 32] = later1 + spent;
         j += 1;
     }
     Moves { zero, one }
@@ -143,7 +154,7 @@ fn lesser(x: u16, y: u16) -> u16
 }
 
 // 1 where taking 1 costs less than taking 0.
-fn choice(zero: u16, one: u16) -> u8
+fn choice(zero: u16, one: u16) -> u16
     requires { ⌜ (one ≤ 32767) × (zero ≤ 32767) ⌝ }
     ensures { λ r. ⌜ r ≡ bit (ltb one zero) ⌝ }
 {
@@ -167,20 +178,19 @@ pub fn minima(m: Moves) -> [u16; 64]
     next
 }
 
-// The decisions so far, moved up by one bit, with this step's in the lowest.
-pub fn choices(m: Moves, old: [u8; 64]) -> [u8; 64]
+// The decisions kept from a place on, moved up by one bit, with this step's in the lowest.
+pub fn choices(m: Moves, kept: &mut [u16], place: usize)
     requires { ⌜ Within (m .zero) (m .one) ⌝ }
-    ensures { λ r. ⌜ Chosen 64 (m .zero) (m .one) old r ⌝ }
+    requires { ⌜ place + 64 ≤ length (now kept) ⌝ }
+    ensures { λ r. ⌜ Chosen 64 (m .zero) (m .one) (now (kept .entry)) place (now (kept .exit)) ⌝ }
 {
     let zero = m.zero;
     let one = m.one;
-    let mut next = [0u8; 64];
     let mut p = 0;
     while p < 64 {
-        next[p] = old[p] % 128 * 2 + choice(zero[p], one[p]);
+        kept[place + p] = kept[place + p] % 32768 * 2 + choice(zero[p], one[p]);
         p += 1;
     }
-    next
 }
 
 // The row with the same taken off every cost.
@@ -195,16 +205,4 @@ pub fn lowered(row: [u16; 64], by: u16) -> [u16; 64]
         s += 1;
     }
     next
-}
-
-// 64 bytes of decisions into their place.
-pub fn store(bytes: [u8; 64], kept: &mut [u8], place: usize)
-    requires { ⌜ place + 64 ≤ length (now kept) ⌝ }
-    ensures { λ r. ⌜ Stored 64 (now (kept .entry)) place bytes (now (kept .exit)) ⌝ }
-{
-    let mut k = 0;
-    while k < 64 {
-        kept[place + k] = bytes[k];
-        k += 1;
-    }
 }

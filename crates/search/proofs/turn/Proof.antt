@@ -6,16 +6,19 @@ use Rattle.search.proofs.turn.Statement.{statement}
 use Rattle.search.proofs.turn.Tie as tie
 
 sums-requires : tie.Need-sums-requires
-sums-requires c κs = (c .before .pre, c .weigh .ensures .small)
-
-minima-requires : tie.Need-minima-requires
-minima-requires c κs = summed-within (c .before .before .pre) (c .before .weigh .ensures .small) (c .sums .ensures)
+sums-requires c κs = (c .before .before .pre .0, c .weigh .ensures .halves)
 
 choices-requires : tie.Need-choices-requires
-choices-requires c κs = summed-within (c .before .before .before .pre) (c .before .before .weigh .ensures .small) (c .before .sums .ensures)
+choices-requires c κs = (summed-within (c .before .before .before .before .pre .0) (c .before .before .weigh .ensures .weighs .small) (c .before .sums .ensures), c .before .before .before .before .pre .1)
+
+minima-requires : tie.Need-minima-requires
+minima-requires c κs = summed-within (c .before .before .before .before .before .before .before .pre .0) (c .before .before .before .before .before .weigh .ensures .weighs .small) (c .before .before .before .before .sums .ensures)
+
+same-length : tie.Need-same-length
+same-length c = c .before .before .before .choices .ensures .sized
 
 returns : tie.Need-returns
-returns c = turn-of (c .before .before .before .weigh .ensures) (c .before .before .sums .ensures) (c .before .minima .ensures) (c .choices .ensures)
+returns c = turn-of (c .before .before .before .before .before .before .weigh .ensures .weighs) (c .before .before .before .before .before .sums .ensures) (c .minima .ensures) (c .before .before .before .choices .ensures)
 
 pub turn-spec : {M : Type 1} → statement M
-turn-spec = tie.close (tie.spec (λ c κs. search needs) sums-requires minima-requires choices-requires returns)
+turn-spec = tie.close (tie.spec (λ c κs. search needs) sums-requires choices-requires minima-requires same-length returns)

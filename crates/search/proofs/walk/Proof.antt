@@ -1,6 +1,5 @@
 -- `search::walk` meets its contract: before moment t the bits on the way are written. Assumes nothing.
-use mathlib.Core.Path.{_≡_}
-use Prim.Native.Nat.{ℕ, _+_, _-_, _*_, _≤_, _<_}
+use Prim.Native.Nat.{_-_, _≤_}
 use native.Mathlib.Omega.{arith}
 use Rattle.search.proofs.Follow.{Walking, walking-start, walking-step, walking-end}
 use Rattle.search.proofs.walk.Statement.{statement}
@@ -16,7 +15,7 @@ loop-holds : tie.Need-loop-holds Inv-loop μ-loop
 loop-holds c = (omega arith, walking-start (c .args .kept .now) (c .args .n) (c .args .bits .now))
 
 loop-again : tie.Need-loop-again Inv-loop μ-loop
-loop-again c = (omega arith, walking-step (c .before .before .loop .inv .1) (c .before .loop-test .taken) (c .before .before .before .pre .room))
+loop-again c = (omega arith, walking-step (c .before .before .loop .inv .1) (omega arith) (c .before .before .before .pre .room))
 
 returns : tie.Need-returns Inv-loop μ-loop
 returns c = walking-end (c .before .loop .inv .1) (omega arith)
@@ -28,6 +27,8 @@ walk-spec =
     Inv-loop
     μ-loop
     loop-holds
+    (λ c. omega arith)
+    (λ c. omega arith)
     (λ c. omega arith)
     (λ c. omega arith)
     (λ c. omega arith)

@@ -1,6 +1,6 @@
 -- `step::lowered` meets its contract: after s turns the first s costs are lowered. Assumes nothing.
 use mathlib.Core.Path.{_≡_, refl}
-use Prim.Native.Nat.{ℕ, _+_, _-_, _*_, _≤_, _<_}
+use Prim.Native.Nat.{_-_, _≤_}
 use native.Mathlib.Omega.{arith}
 use Rattle.rows.specs.Rows.{Lowered}
 use Rattle.rows.proofs.Fill.{lowered-none, lowered-more}

@@ -1,6 +1,6 @@
 -- `step::minima` meets its contract: after j turns the cheaper moves of the first j pairs stand in the row. Assumes nothing.
 use mathlib.Core.Path.{_≡_, refl}
-use Prim.Native.Nat.{ℕ, _+_, _-_, _*_, _≤_, _<_}
+use Prim.Native.Nat.{_+_, _-_, _≤_}
 use native.Mathlib.Omega.{arith}
 use Rattle.rows.specs.Rows.{Least}
 use Rattle.rows.proofs.Fill.{least-none, least-more}
@@ -23,10 +23,11 @@ lesser-requires-2 : tie.Need-lesser-requires-2 Inv-loop μ-loop
 lesser-requires-2 c κs = c .before .before .before .before .before .pre .each (c .before .before .loop .j + 32) (omega arith)
 
 loop-again : tie.Need-loop-again Inv-loop μ-loop
-loop-again c =
-    (omega arith,
-      least-more (c .before .before .before .loop .j) (c .before .lesser .result) (c .lesser2 .result) (omega arith) (c .before .lesser .ensures) (c .lesser2 .ensures)
-      (c .before .before .before .loop .inv .1))
+loop-again c = (
+  omega arith,
+  least-more (c .before .before .before .loop .j) (c .before .lesser .result) (c .lesser2 .result) (omega arith) (c .before .lesser .ensures) (c .lesser2 .ensures)
+      (c .before .before .before .loop .inv .1),
+)
 
 returns : tie.Need-returns Inv-loop μ-loop
 returns c =

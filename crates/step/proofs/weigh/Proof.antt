@@ -1,13 +1,12 @@
 -- `step::weigh` meets its contract: the six amounts are what the values have against either bit, and the sums of them stand where 001's words put them. Assumes nothing.
-use mathlib.Core.Path.{_≡_, subst₂, sym, ap, _∙_}
 use borrow.Author.Needs.{needs}
-use Rattle.rows.proofs.Weighs.{weighs-summed}
+use Rattle.rows.proofs.Weighs.{split-summed}
 use Rattle.step.proofs.weigh.Statement.{statement}
 use Rattle.step.proofs.weigh.Tie as tie
 
 returns : tie.Need-returns
 returns c =
-    weighs-summed
+    split-summed
     (c .before .before .before .before .before .before .against-zero .ensures)
     (c .before .before .before .before .before .against-one .ensures)
     (c .before .before .before .before .against-zero2 .ensures)
