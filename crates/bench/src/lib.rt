@@ -1,7 +1,6 @@
 // The search, its neighbours and the whole recovery, for the benchmark: a C program lends them buffers. No part of the product's own C interface.
 use uplink::Built;
 use uplink::Recovered;
-
 ghost use mathlib.Core.List.{map};
 ghost use mathlib.Core.Path.{_≡_};
 ghost use Rattle.bits.specs.Bits.{bit, isOne};
@@ -62,12 +61,21 @@ pub extern "C" fn gloam_bench_whiten(bits: &mut [u8])
 
 // The refusal of the whole recovery, 0 where the message is written.
 #[no_mangle]
-pub extern "C" fn gloam_bench_recover(l: u64, marks: &[u8], values: &[u8], message: &mut [u8]) -> u32
+pub extern "C" fn gloam_bench_recover(
+    l: u64,
+    marks: &[u8],
+    values: &[u8],
+    message: &mut [u8],
+) -> u32
     ensures { λ r. ⌜ HandsRecovered l (now (marks .entry)) (now (values .entry)) (now (message .entry)) (now (message .exit)) r ⌝ }
 {
     let answer = uplink::recover(l, marks, values, message);
     match answer {
-        Recovered::Done { length: _, mode: _, cost: _ } => 0,
+        Recovered::Done {
+            length: _,
+            mode: _,
+            cost: _,
+        } => 0,
         Recovered::Refused(number) => number,
     }
 }

@@ -34,7 +34,7 @@ module _ (M : Machine) where
   spent-walk (suc k) s = go (takes M k s) refl (spent-walk k (M .move (takes M k s) s))
     where
       go :
-        (b : Bool) → takes M k s ≡ b → spent M (M .move b s) (walk M k (M .move b s)) ≡ rem M k (M .move b s)
+          (b : Bool) → takes M k s ≡ b → spent M (M .move b s) (walk M k (M .move b s)) ≡ rem M k (M .move b s)
           → M .price b s + spent M (M .move b s) (walk M k (M .move b s)) ≡ min (M .price false s + rem M k (M .move false s)) (M .price true s + rem M k (M .move true s))
       go true e ih = omega (arith, ih, ltb-true)
       go false e ih = omega (arith, ih, ltb-false)
@@ -48,7 +48,7 @@ module _ (M : Machine) where
   walk-first (suc k) s (b ∷ y) e c = go (takes M k s) refl b (omega arith) (λ d. walk-first k (M .move b s) y (omega arith) d) c
     where
       go :
-        (t : Bool) → takes M k s ≡ t → (b : Bool) → length y ≡ k → (spent M (M .move b s) y ≡ rem M k (M .move b s) → NotAfter (walk M k (M .move b s)) y)
+          (t : Bool) → takes M k s ≡ t → (b : Bool) → length y ≡ k → (spent M (M .move b s) y ≡ rem M k (M .move b s) → NotAfter (walk M k (M .move b s)) y)
           → spent M s (b ∷ y) ≡ rem M (suc k) s → NotAfter (t ∷ walk M k (M .move t s)) (b ∷ y)
       go false e false l ih c = more (ih (omega (arith, ltb-false)))
       go false e true l ih c = less
@@ -61,7 +61,7 @@ module _ (M : Machine) where
       record {
         sized = length-walk k s;
         least = λ y e. omega (arith, rem-le k s y e, spent-walk k s);
-        first = λ y e c. walk-first k s y e (c ∙ spent-walk k s)
+        first = λ y e c. walk-first k s y e (c ∙ spent-walk k s);
       }
 
 -- the second machine follows the first, from related states: the same prices, and related states after each move

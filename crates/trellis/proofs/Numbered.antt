@@ -77,7 +77,7 @@ module _ (w : Words) where
         record {
           price = price-same;
           move = move-same;
-          rest = λ r. slide-same 6 r ∙ sym (rem-six w _ (r .held .below))
+          rest = λ r. slide-same 6 r ∙ sym (rem-six w _ (r .held .below));
         }
 
     same-start : (values : List ℕ) → Same (begun values) (start values)

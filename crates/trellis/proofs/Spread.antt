@@ -32,13 +32,17 @@ meet-shifted b {i} {s} {t} m = record { times = m .times * 2; whole = doubled; s
         ∙ sym (mul-assoc (2 ^ i) 2 (m .times))
         ∙ ap (λ (x : ℕ). x * m .times) (sym (pow-suc 2 i))
         ∙ m .whole
+
     half : 32 ≡ m .times * 2 ^ i
     half = omega (arith, mul-assoc (2 ^ i) (m .times) 2, doubled, mul-comm (2 ^ i) (m .times))
+
     next : (x : ℕ) → x / 2 / 2 ^ i ≡ x / 2 ^ suc i
     next x = div-div-eq-div-mul x 2 (2 ^ i) ∙ ap (λ (d : ℕ). x / d) (mul-comm 2 (2 ^ i) ∙ sym (pow-suc 2 i))
+
     raised : (x : ℕ) → (x / 2 + 32) / 2 ^ i ≡ x / 2 ^ suc i + m .times
     raised x =
         ap (λ (d : ℕ). (x / 2 + d) / 2 ^ i) half ∙ add-mul-div-right (x / 2) (m .times) (pow-pos i) ∙ ap (λ (d : ℕ). d + m .times) (next x)
+
     go : (c : Bool) → shifted c s / 2 ^ i ≡ shifted c t / 2 ^ i
     go false = next s ∙ m .same ∙ sym (next t)
     go true = raised s ∙ ap (λ (d : ℕ). d + m .times) (m .same) ∙ sym (raised t)
@@ -68,11 +72,13 @@ module _ (w : Words) where
   rem-near zero values h l m = rw (rem-six w (at values _) h, rem-six w (at values _) l) (slide-near 6 values m)
   rem-near (suc k) {i = zero} {s} {t} values h l m = rw (meet-none m) (omega arith)
   rem-near (suc k) {i = suc i} {s} {t} values h l m =
-      omega (arith,
+      omega (
+        arith,
         price-le w values false s,
         price-le w values true s,
         rem-near k (drop 3 values) (shifted-below false s h) (shifted-below false t l) (meet-shifted false m),
-        rem-near k (drop 3 values) (shifted-below true s h) (shifted-below true t l) (meet-shifted true m))
+        rem-near k (drop 3 values) (shifted-below true s h) (shifted-below true t l) (meet-shifted true m),
+      )
 
   module _ (values : List ℕ) {s : ℕ} (h : s < 64) where
     later-lowest : (k : ℕ) → rem (open64 w) (k + 6) (at values 0) ≤ rem (open64 w) (k + 6) (at values s) + 2304

@@ -36,9 +36,11 @@ module _ (w : Words) where
   unfolding rem
   rem-stray zero s h = rw (ne-eqb (s .state) 0 (λ e. omega arith)) (omega arith)
   rem-stray (suc k) s h =
-      omega (arith,
+      omega (
+        arith,
         rem-stray k (open64 w .move false s) (omega (arith, pow-suc 2 k)),
-        rem-stray k (open64 w .move true s) (omega (arith, pow-suc 2 k)))
+        rem-stray k (open64 w .move true s) (omega (arith, pow-suc 2 k)),
+      )
 
   -- a state that k zeros take to 0, k at most six, costs what they cost
   rem-slide : (k : ℕ) → k ≤ 6 → (s : At) → s .state < 2 ^ k → rem (open64 w) k s ≡ slide k s
@@ -46,13 +48,15 @@ module _ (w : Words) where
   rem-slide zero h s e = rw (eq-eqb (s .state) 0 (omega arith))
   rem-slide (suc k) h s e =
       let reached : rem (open64 w) k (open64 w .move false s) ≡ slide k (open64 w .move false s) =
-        rem-slide k (omega arith) (open64 w .move false s) (omega (arith, pow-suc 2 k))
+      rem-slide k (omega arith) (open64 w .move false s) (omega (arith, pow-suc 2 k))
       in
       let small : 2 ^ k ≤ 32 = pow-mono {j = 5} (omega arith) in
-      omega (arith,
+      omega (
+        arith,
         rem-stray k (open64 w .move true s) (omega arith),
         slide-le k (open64 w .move false s),
-        price-le (s .values) false (s .state))
+        price-le (s .values) false (s .state),
+      )
 
   -- the six last steps take 0 from every state
   pub rem-six : (s : At) → s .state < 64 → rem (open64 w) 6 s ≡ slide 6 s

@@ -22,7 +22,7 @@ history w =
       State = Taken;
       move = λ b s. record { bits = b ∷ s .bits; values = drop 3 (s .values) };
       price = λ b s. distance (outputs w (b ∷ s .bits)) (s .values);
-      rest = λ s. distance (codedAfter w (s .bits) tail) (s .values)
+      rest = λ s. distance (codedAfter w (s .bits) tail) (s .values);
     }
 
 pub record At : Type 0 where
@@ -44,7 +44,7 @@ open64 w =
       State = At;
       move = λ b s. record { state = shifted b (s .state); values = drop 3 (s .values) };
       price = λ b s. price w (s .values) b (s .state);
-      rest = λ s. astray (s .state)
+      rest = λ s. astray (s .state);
     }
 
 -- the same with the six last steps in its rest
@@ -54,5 +54,5 @@ numbered w =
       State = At;
       move = open64 w .move;
       price = open64 w .price;
-      rest = rem (open64 w) 6
+      rest = rem (open64 w) 6;
     }

@@ -38,7 +38,7 @@ bursts-front bits rest e p =
     record {
       sized = p .sized;
       bits = λ j s m q. p .bits j s m q ∙ List·getD-append bits rest 0 j (omega (arith, q .coded));
-      pilots = p .pilots
+      pilots = p .pilots;
     }
 
 -- bits that stand first in a buffer, read back
@@ -55,12 +55,12 @@ module _ (message : List ℕ) (mode : ℕ) (told : Length (length message)) wher
 
   -- composed, whitened, coded and filled in
   pub put-of :
-    (bits₀ coded₀ : List ℕ) {bits part codedBytes before after : List ℕ}
+      (bits₀ coded₀ : List ℕ) {bits part codedBytes before after : List ℕ}
       → bits ≡ map bit (payload message mode) ++ drop (payloadBits (length message)) bits₀
       → part ≡ map bit (whitened (map isOne (take (26 + 8 * length message) bits)))
       → codedBytes
-        ≡ map bit (coded uplinkWords (map isOne (take (26 + 8 * length message) (part ++ drop (26 + 8 * length message) bits))))
-          ++ drop (3 * (length (take (26 + 8 * length message) (part ++ drop (26 + 8 * length message) bits)) + 6)) coded₀
+      ≡ map bit (coded uplinkWords (map isOne (take (26 + 8 * length message) (part ++ drop (26 + 8 * length message) bits))))
+      ++ drop (3 * (length (take (26 + 8 * length message) (part ++ drop (26 + 8 * length message) bits)) + 6)) coded₀
       → Framed (length message) codedBytes before after
       → Put message mode before after
   unfolding codedPayload
@@ -72,10 +72,12 @@ module _ (message : List ℕ) (mode : ℕ) (told : Length (length message)) wher
           w
           ∙ ap (λ (l : List ℕ). map bit (whitened (map isOne (take (26 + 8 * length message) l)))) b
           ∙ ap (λ (x : List Bool). map bit (whitened x)) (front-bits (payload message mode) (drop (payloadBits (length message)) bits₀) (26 + 8 * length message) (length-payload message mode (told .low)))
+
       sent : map isOne (take (26 + 8 * length message) (part ++ drop (26 + 8 * length message) bits)) ≡ whitened (payload message mode)
       sent =
           ap (λ (l : List ℕ). map isOne (take (26 + 8 * length message) (l ++ drop (26 + 8 * length message) bits))) part-is
           ∙ front-bits (whitened (payload message mode)) (drop (26 + 8 * length message) bits) (26 + 8 * length message) length-whitened-payload
+
       framed : Bursts (length message) (map bit (codedPayload message mode) ++ drop (3 * (length (take (26 + 8 * length message) (part ++ drop (26 + 8 * length message) bits)) + 6)) coded₀) (take (36 * (length message + 4)) after)
       framed = rw (k ∙ ap (λ (x : List Bool). map bit (coded uplinkWords x) ++ drop (3 * (length (take (26 + 8 * length message) (part ++ drop (26 + 8 * length message) bits)) + 6)) coded₀) sent) at (f .frame)
 
@@ -106,7 +108,7 @@ module _ {l mode : ℕ} {message before : List ℕ} where
         sized = refl;
         frame = λ z. absurd (d (e ∙ z));
         rest = λ z. refl;
-        kept = λ z. refl
+        kept = λ z. refl;
       }
 
   pub builds-done : {after : List ℕ} → buildRefusal l mode (length message) (length before) ≡ 0 → Put message mode before after → Builds l mode message before after (Built-is.Done (36 * (l + 4)))
@@ -118,5 +120,5 @@ module _ {l mode : ℕ} {message before : List ℕ} where
         sized = p .sized;
         frame = λ e. rw (← same) (p .frame);
         rest = λ e. rw (← same) (p .rest);
-        kept = λ d. absurd (d z)
+        kept = λ d. absurd (d z);
       }

@@ -72,7 +72,7 @@ module _ (l : ℕ) (told : Length l) (bits : List Bool) where
         marked = length-replicate (l + 4) 1;
         valued = length-firsts (24 * (l + 4)) (λ k. valueAt k (decLt (k / 24) (subPackets l)));
         roomy = r;
-        marksAre = ones-good (l + 4)
+        marksAre = ones-good (l + 4);
       }
 
   -- the value at the place of coded bit j is the one made for it
@@ -96,5 +96,5 @@ module _ (l : ℕ) (told : Length l) (bits : List Bool) where
       rw (getD-replicate {A = ℕ} (l + 4) s 1 0 (placed-packet told here))
       (subst (λ (x : ℕ). RightSide (getD bits j false) x)
       (sym (getD-firsts (24 * (l + 4)) (λ k. valueAt k (decLt (k / 24) (subPackets l))) (24 * s + valueOf m) (omega (arith, placed-packet told here))
-        ∙ valueAt-placed j (24 * s + valueOf m) there (decLt ((24 * s + valueOf m) / 24) (subPackets l))))
+      ∙ valueAt-placed j (24 * s + valueOf m) there (decLt ((24 * s + valueOf m) / 24) (subPackets l))))
       (sideOf-right (getD bits j false)))

@@ -34,7 +34,7 @@ demand-1 =
       buildOrder = λ {l} {mode} {message} {before} p. subst (λ (k : ℕ). FirstBuild l mode (length message) (length before) k) (sym (p .refusal)) (build-first l mode (length message) (length before));
       recoverOrder = λ {l} {marks} {values} {before} p. subst (λ (k : ℕ). FirstRecover l marks values (length before) k) (sym (p .refusal)) (recover-first l marks values (length before));
       buildKeeps = λ p d. p .kept (λ e. d (p .refusal ∙ e));
-      recoverKeeps = λ {l} {marks} {values} {before} p d. p .message ∙ rw (ne-eqb (recoverRefusal l marks values (length before)) 0 (λ e. d (p .refusal ∙ e)))
+      recoverKeeps = λ {l} {marks} {values} {before} p d. p .message ∙ rw (ne-eqb (recoverRefusal l marks values (length before)) 0 (λ e. d (p .refusal ∙ e)));
     }
 
 -- a call whose number is 0 is formed, is heard, and its nearest string passes the checks
@@ -72,22 +72,25 @@ module _ {l : ℕ} {marks values before after : List ℕ} {answer : Recovered} (
         payloadIs = sym (whitened-whitened (nearestString l marks values)) ∙ ap whitened (held .whole ∙ rw (done-mode, written));
         totalIs = done-cost;
         least = near .least;
-        first = near .first
+        first = near .first;
       }
     where
       near : Nearest (cost uplinkWords (received l marks values)) (payloadBits l) (nearestString l marks values)
       near = nearest-is (cost uplinkWords (received l marks values)) (payloadBits l)
+
       taken : Taken l marks values (length before)
       taken = taken-first (recover-first l marks values (length before)) z
+
       held : Trip.Composes l (opened l marks values)
       held = Trip.payload-open l (opened l marks values) (length-whitened (nearestString l marks values) ∙ near .sized) (taken .formed .told .low) (taken .passes)
+
       written : take l after ≡ messageOf l (opened l marks values)
       written = ap (take l) done-message ∙ take-at (messageOf l (opened l marks values)) (drop l before) l (held .sized)
 
 module _ {message : List ℕ} {mode : ℕ} {marks values before after : List ℕ} {answer : Recovered} (s : Sendable message mode) (f : Formed (length message) marks values (length before)) where
   -- a call that is not refused and opens to a message and mode returns them
   returned-of :
-    recoverRefusal (length message) marks values (length before) ≡ 0
+      recoverRefusal (length message) marks values (length before) ≡ 0
       → messageOf (length message) (opened (length message) marks values) ≡ message
       → modeOf (length message) (opened (length message) marks values) ≡ mode
       → Recovers (length message) marks values before after answer → Returned message mode before after answer
@@ -96,7 +99,7 @@ module _ {message : List ℕ} {mode : ℕ} {marks values before after : List ℕ
         refusal = p .refusal ∙ z;
         lengthIs = p .told ∙ rw (eq-eqb (recoverRefusal (length message) marks values (length before)) 0 z);
         modeIs = done-mode p z ∙ d;
-        written = done-message p z ∙ ap (λ (x : List ℕ). x ++ drop (length message) before) m
+        written = done-message p z ∙ ap (λ (x : List ℕ). x ++ drop (length message) before) m;
       }
 
 pub demand-2 : Demand2
@@ -105,8 +108,8 @@ demand-2 =
       frame = λ p z. p .frame (sym (p .refusal) ∙ z);
       taken = λ {mode} {message} {before} p s r. p .refusal ∙ build-done (length message) mode (length message) (length before) (s .told) refl r (s .modes);
       comesBack = λ {mode} {message} {marks} {values} {before} s f right p.
-        let h = right-half message mode marks values (length before) s f right in
-        returned-of s f (refusal-none message mode marks values (length before) s f h) (message-sent message mode marks values (length before) s f h) (mode-sent message mode marks values (length before) s f h) p
+          let h = right-half message mode marks values (length before) s f right in
+          returned-of s f (refusal-none message mode marks values (length before) s f h) (message-sent message mode marks values (length before) s f h) (mode-sent message mode marks values (length before) s f h) p;
     }
 
 pub demand-3 : Demand3
@@ -114,7 +117,7 @@ demand-3 =
     record {
       behind = λ p z. behind-of p (sym (p .refusal) ∙ z);
       returned = λ {mode} {message} {marks} {values} {before} s f h p.
-        returned-of s f (refusal-none message mode marks values (length before) s f h) (message-sent message mode marks values (length before) s f h) (mode-sent message mode marks values (length before) s f h) p
+          returned-of s f (refusal-none message mode marks values (length before) s f h) (message-sent message mode marks values (length before) s f h) (mode-sent message mode marks values (length before) s f h) p;
     }
 
 pub recover-taken : (l : ℕ) (marks values : List ℕ) (room : ℕ) → recoverRefusal l marks values room ≡ 0 → Taken l marks values room

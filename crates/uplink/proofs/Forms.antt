@@ -22,7 +22,7 @@ module _ {l : ℕ} {marks values : List ℕ} {room : ℕ} where
       record {
         refused = λ d. recover-mark l marks values room (s .told) (s .marked) (s .valued) (s .roomy) g;
         formed = λ e. absurd (omega arith);
-        heard = λ e. absurd (omega arith)
+        heard = λ e. absurd (omega arith);
       }
 
   pub judged-silence : Sized l marks values room → marksGood marks ≡ true → silent marks values ≡ true → FormJudged l marks values room 6
@@ -30,7 +30,7 @@ module _ {l : ℕ} {marks values : List ℕ} {room : ℕ} where
       record {
         refused = λ d. recover-silence l marks values room (formed-of s g) q;
         formed = λ e. absurd (omega arith);
-        heard = λ e. absurd (omega arith)
+        heard = λ e. absurd (omega arith);
       }
 
   pub judged-heard : Sized l marks values room → marksGood marks ≡ true → silent marks values ≡ false → FormJudged l marks values room 0

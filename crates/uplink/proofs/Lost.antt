@@ -56,19 +56,21 @@ silent-alike (m ∷ ms) values others a =
     here e =
         ext-getD 0 (take 24 values) (take 24 others) (length-take 24 values ∙ ap (λ (n : ℕ). min 24 n) (a .sized) ∙ sym (length-take 24 others))
         (λ i h.
-          let l : i < 24 = omega (arith, length-take 24 values) in
-          let z : 24 * 0 + i ≡ i = omega arith in
-          getD-take 24 values i 0 l ∙ (rw z at (a .same 0 i l e)) ∙ sym (getD-take 24 others i 0 l))
+        let l : i < 24 = omega (arith, length-take 24 values) in
+        let z : 24 * 0 + i ≡ i = omega arith in
+        getD-take 24 values i 0 l ∙ (rw z at (a .same 0 i l e)) ∙ sym (getD-take 24 others i 0 l))
+
     go : (t : Bool) → eqb m 1 ≡ t → (not t || zeros (take 24 values)) ≡ (not t || zeros (take 24 others))
     go true e = ap zeros (here (eqb-true m 1 e))
     go false e = refl
+
     rest : Alike ms (drop 24 values) (drop 24 others)
     rest =
         record {
           sized = length-drop 24 values ∙ ap (λ (n : ℕ). n - 24) (a .sized) ∙ sym (length-drop 24 others);
           same = λ s p h e.
-            let z : 24 * suc s + p ≡ 24 + (24 * s + p) = omega arith in
-            getD-drop 24 values (24 * s + p) 0 ∙ (rw z at (a .same (suc s) p h e)) ∙ sym (getD-drop 24 others (24 * s + p) 0)
+              let z : 24 * suc s + p ≡ 24 + (24 * s + p) = omega arith in
+              getD-drop 24 values (24 * s + p) 0 ∙ (rw z at (a .same (suc s) p h e)) ∙ sym (getD-drop 24 others (24 * s + p) 0);
         }
 
 module _ {l : ℕ} {marks values others : List ℕ} (a : Alike marks values others) where
@@ -91,7 +93,7 @@ module _ {l : ℕ} {marks values others : List ℕ} (a : Alike marks values othe
         told = p .told ∙ ap (λ (r : ℕ). cond (eqb r 0) l 0) (sym e);
         mode = p .mode ∙ ap₂ (λ (r : ℕ) (x : List Bool). cond (eqb r 0) (modeOf l x) 0) (sym e) (sym (opened-alike h));
         weight = p .weight ∙ ap₂ (λ (r c : ℕ). cond (eqb r 0) c 0) (sym e) (sym (cost-alike h));
-        message = p .message ∙ ap₂ (λ (r : ℕ) (x : List Bool). cond (eqb r 0) (messageOf l x ++ drop l before) before) (sym e) (sym (opened-alike h))
+        message = p .message ∙ ap₂ (λ (r : ℕ) (x : List Bool). cond (eqb r 0) (messageOf l x ++ drop l before) before) (sym e) (sym (opened-alike h));
       }
 
   -- a wrong length is refused alike
@@ -102,7 +104,7 @@ module _ {l : ℕ} {marks values others : List ℕ} (a : Alike marks values othe
         told = p .told ∙ rw (one others (length before), one values (length before));
         mode = p .mode ∙ rw (one others (length before), one values (length before));
         weight = p .weight ∙ rw (one others (length before), one values (length before));
-        message = p .message ∙ rw (one others (length before), one values (length before))
+        message = p .message ∙ rw (one others (length before), one values (length before));
       }
 
   pub recovers-alike : {before after : List ℕ} {answer : Recovered} → Recovers l marks others before after answer → Recovers l marks values before after answer

@@ -47,7 +47,7 @@ module _ (l : ℕ) (marks values : List ℕ) where
 
   -- gathered, searched and freed of the whitening
   pub nearing-of :
-    (rest : List ℕ) {got before bits part : List ℕ} {total : ℕ} → Length l
+      (rest : List ℕ) {got before bits part : List ℕ} {total : ℕ} → Length l
       → got ≡ received l marks values ++ rest
       → Found (take (96 + 24 * l) got) (26 + 8 * l) before bits total
       → part ≡ map bit (whitened (map isOne (take (26 + 8 * l) bits)))
@@ -56,15 +56,18 @@ module _ (l : ℕ) (marks values : List ℕ) where
       record {
         bits = ap (λ (x : List ℕ). x ++ drop (26 + 8 * l) bits) part-is ∙ ap (λ (x : List ℕ). map bit (opened l marks values) ++ x) kept;
         totalIs = total-is;
-        most = omega (arith, total-is, cost-le uplinkWords (received l marks values) (nearestString l marks values), length-nearest, told .high)
+        most = omega (arith, total-is, cost-le uplinkWords (received l marks values) (nearestString l marks values), length-nearest, told .high);
       }
     where
       heard : Found (received l marks values) (26 + 8 * l) before bits total
       heard = subst (λ (v : List ℕ). Found v (26 + 8 * l) before bits total) (gathered-front rest g) found
+
       total-is : total ≡ nearestCost l marks values
       total-is = heard .costs
+
       kept : drop (26 + 8 * l) bits ≡ drop (26 + 8 * l) before
       kept = ap (drop (26 + 8 * l)) (heard .string) ∙ drop-at (map bit (nearestString l marks values)) (drop (26 + 8 * l) before) (26 + 8 * l) (length-map (nearestString l marks values) bit ∙ length-nearest)
+
       part-is : part ≡ map bit (opened l marks values)
       part-is =
           w
@@ -103,7 +106,7 @@ module _ {l : ℕ} {marks values : List ℕ} (before : List ℕ) where
           told = rw n;
           mode = rw n (o .mode z ∙ ap (modeOf l) (nearing-bits l marks values p));
           weight = rw n (p .totalIs);
-          message = rw n (o .message z ∙ ap (λ (x : List Bool). messageOf l x ++ drop l before) (nearing-bits l marks values p))
+          message = rw n (o .message z ∙ ap (λ (x : List Bool). messageOf l x ++ drop l before) (nearing-bits l marks values p));
         }
 
     pub recovers-failed : {after : List ℕ} {k : ℕ} → (k ≡ 0 → ⊥) → Opening l (take (26 + 8 * l) bits) before after (Opened-is.Refused k) → Recovers l marks values before after (Recovered-is.Refused k)
@@ -114,7 +117,7 @@ module _ {l : ℕ} {marks values : List ℕ} (before : List ℕ) where
           told = rw n;
           mode = rw n;
           weight = rw n;
-          message = rw n (o .kept (λ z. d (o .number ∙ z)))
+          message = rw n (o .kept (λ z. d (o .number ∙ z)));
         }
 
     -- an answer of refusal 0 is no refusal

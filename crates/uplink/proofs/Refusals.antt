@@ -57,9 +57,11 @@ module _ (l mode size room : ℕ) where
       last h s (yes r) m = rw (build-room h s r) (FirstBuild.room h s r)
       last h s (no r) (yes m) = rw (build-mode h s (omega arith) m) (FirstBuild.mode h s (omega arith) m)
       last h s (no r) (no m) = rw (build-done h s (omega arith) (omega arith)) (FirstBuild.done h s (omega arith) (omega arith))
+
       sized : Length l → Dec (size ≡ l) → FirstBuild l mode size room (buildRefusal l mode size room)
       sized h (yes s) = last h s (decLt room (frameSize l)) (decLt 3 mode)
       sized h (no s) = rw (build-size h s) (FirstBuild.size h s)
+
       low : Dec (l < 20) → Dec (255 < l) → FirstBuild l mode size room (buildRefusal l mode size room)
       low (yes h) d = rw (build-short h) (FirstBuild.short h)
       low (no h) (yes d) = rw (build-long d) (FirstBuild.long d)
@@ -110,16 +112,20 @@ module _ (l : ℕ) (marks values : List ℕ) (room : ℕ) where
       heard : Formed l marks values room → (t : Bool) → silent marks values ≡ t → FirstRecover l marks values room (recoverRefusal l marks values room)
       heard f true s = rw (recover-silence f s) (FirstRecover.silence f s)
       heard f false s = rw (recover-opening f s) (FirstRecover.opening f s)
+
       marked : Length l → length marks ≡ l + 4 → length values ≡ 24 * (l + 4) → l ≤ room → (t : Bool) → marksGood marks ≡ t → FirstRecover l marks values room (recoverRefusal l marks values room)
       marked h m v r false g = rw (recover-mark h m v r g) (FirstRecover.mark h m v r g)
       marked h m v r true g = heard (record { told = h; marked = m; valued = v; roomy = r; marksAre = g }) (silent marks values) refl
+
       roomed : Length l → length marks ≡ l + 4 → length values ≡ 24 * (l + 4) → Dec (room < l) → FirstRecover l marks values room (recoverRefusal l marks values room)
       roomed h m v (yes r) = rw (recover-room h m v r) (FirstRecover.room h m v r)
       roomed h m v (no r) = marked h m v (omega arith) (marksGood marks) refl
+
       sized : Length l → Dec (length marks ≡ l + 4) → Dec (length values ≡ 24 * (l + 4)) → FirstRecover l marks values room (recoverRefusal l marks values room)
       sized h (yes m) (yes v) = roomed h m v (decLt room l)
       sized h (yes m) (no v) = rw (recover-values h v) (FirstRecover.values h v)
       sized h (no m) v = rw (recover-marks h m) (FirstRecover.marks h m)
+
       low : Dec (l < 20) → Dec (255 < l) → FirstRecover l marks values room (recoverRefusal l marks values room)
       low (yes h) d = rw (recover-short h) (FirstRecover.short h)
       low (no h) (yes d) = rw (recover-long d) (FirstRecover.long d)

@@ -74,9 +74,11 @@ module _ (message : List ℕ) (mode : ℕ) (marks values : List ℕ) (room : ℕ
     unfolding codedPayload
     heard-something false e = e
     heard-something true e =
-        absurd (omega (arith,
+        absurd (omega (
+          arith,
           half (other sent) (length-other sent ∙ length-sent) (other-differs sent (omega (arith, length-sent))),
-          apart-zeros (coded uplinkWords sent) (coded uplinkWords (other sent)) got (received-silent (length message) marks values (sendable .told) e)))
+          apart-zeros (coded uplinkWords sent) (coded uplinkWords (other sent)) got (received-silent (length message) marks values (sendable .told) e),
+        ))
 
     pub refusal-none : recoverRefusal (length message) marks values room ≡ 0
     refusal-none =
@@ -92,16 +94,18 @@ module _ (message : List ℕ) (mode : ℕ) (marks values : List ℕ) (room : ℕ
 
   -- heard on the right side at every coded bit, the string costs nothing and every other is apart from it
   pub right-half :
-    ((j : ℕ) → j < codedBits (length message) → RightSide (getD (codedPayload message mode) j false) (heard (length message) marks values j))
+      ((j : ℕ) → j < codedBits (length message) → RightSide (getD (codedPayload message mode) j false) (heard (length message) marks values j))
       → (y : List Bool) → length y ≡ payloadBits (length message) → (y ≡ sent → ⊥) → 2 * cost uplinkWords got sent < apart (codedPayload message mode) (coded uplinkWords y) got
   unfolding codedPayload cost
   right-half right y e d =
-      omega (arith,
+      omega (
+        arith,
         distance-right (coded uplinkWords sent) got side,
         apart-right (coded uplinkWords sent) (coded uplinkWords y) got (omega (arith, length-coded uplinkWords sent, length-coded uplinkWords y, length-sent))
-        (omega (arith, length-received (length message) marks values, length-coded uplinkWords sent, length-sent))
-        (λ s. d (sym (coded-injective uplinkWords uplinkWords-tell sent y (length-sent ∙ sym e) s)))
-        side)
+            (omega (arith, length-received (length message) marks values, length-coded uplinkWords sent, length-sent))
+            (λ s. d (sym (coded-injective uplinkWords uplinkWords-tell sent y (length-sent ∙ sym e) s)))
+            side,
+      )
     where
       side : (j : ℕ) → j < length (coded uplinkWords sent) → RightSide (getD (coded uplinkWords sent) j false) (getD got j 0)
       side j h =

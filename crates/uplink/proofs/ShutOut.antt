@@ -45,7 +45,7 @@ no-second =
       buildAnswer = λ p q. built-answer-unique p q;
       buildBuffer = λ p q. built-buffer-unique p q;
       recoverAnswer = λ p q. recovered-answer-unique p q;
-      recoverBuffer = λ p q. recovered-buffer-unique p q
+      recoverBuffer = λ p q. recovered-buffer-unique p q;
     }
 
 zero-nothing : (b : Bool) → against b 0 ≡ 0
@@ -58,11 +58,13 @@ cost-most {l} {marks} {values} {before} {after} {answer} p = go (ℕ-discrete (r
   where
     go : Dec (recoverRefusal l marks values (length before) ≡ 0) → recoveredCost answer ≤ 795648
     go (yes z) =
-        omega (arith,
+        omega (
+          arith,
           p .weight ∙ ap (λ (t : Bool). cond t (nearestCost l marks values) 0) (eq-eqb (recoverRefusal l marks values (length before)) 0 z),
           cost-le uplinkWords (received l marks values) (nearestString l marks values),
           nearest-is (cost uplinkWords (received l marks values)) (payloadBits l) .sized,
-          recover-taken l marks values (length before) z .formed .told .high)
+          recover-taken l marks values (length before) z .formed .told .high,
+        )
     go (no d) = omega (arith, p .weight ∙ ap (λ (t : Bool). cond t (nearestCost l marks values) 0) (ne-eqb (recoverRefusal l marks values (length before)) 0 d))
 
 pub soft-values : SoftValues
@@ -71,7 +73,7 @@ soft-values =
       lostAnswer = λ a p q. recovered-answer-unique p (recovers-alike a q);
       lostBuffer = λ a p q. recovered-buffer-unique p (recovers-alike a q);
       zeroSaysNothing = zero-nothing;
-      most = cost-most
+      most = cost-most;
     }
 
 -- the frame tells the coded bits, and those the mode
@@ -80,11 +82,12 @@ module _ {message : List ℕ} {mode mode′ : ℕ} {frame : List ℕ} (s : Senda
   same-coded =
       ext-getD 0 (map bit (codedPayload message mode)) (map bit (codedPayload message mode′)) (long ∙ sym long′)
       (λ j h.
-        let here = placed-here (s .told) {j = j} (omega (arith, long)) in
-        sym (p .bits j (packetOf (length message) j) (symbolOf (length message) j) here) ∙ q .bits j (packetOf (length message) j) (symbolOf (length message) j) here)
+      let here = placed-here (s .told) {j = j} (omega (arith, long)) in
+      sym (p .bits j (packetOf (length message) j) (symbolOf (length message) j) here) ∙ q .bits j (packetOf (length message) j) (symbolOf (length message) j) here)
     where
       long : length (map bit (codedPayload message mode)) ≡ codedBits (length message)
       long = length-map (codedPayload message mode) bit ∙ length-codedPayload message mode (s .told)
+
       long′ : length (map bit (codedPayload message mode′)) ≡ codedBits (length message)
       long′ = length-map (codedPayload message mode′) bit ∙ length-codedPayload message mode′ (s .told)
 
@@ -93,9 +96,9 @@ module _ {message : List ℕ} {mode mode′ : ℕ} {frame : List ℕ} (s : Senda
   same-payload =
       sym (whitened-whitened (payload message mode))
       ∙ ap whitened
-        (coded-injective uplinkWords uplinkWords-tell (whitened (payload message mode)) (whitened (payload message mode′))
-        (length-whitened (payload message mode) ∙ length-payload message mode (s .told .low) ∙ sym (length-whitened (payload message mode′) ∙ length-payload message mode′ (s .told .low)))
-        (sym (map-isOne-map-bit (codedPayload message mode)) ∙ ap (map isOne) same-coded ∙ map-isOne-map-bit (codedPayload message mode′)))
+      (coded-injective uplinkWords uplinkWords-tell (whitened (payload message mode)) (whitened (payload message mode′))
+      (length-whitened (payload message mode) ∙ length-payload message mode (s .told .low) ∙ sym (length-whitened (payload message mode′) ∙ length-payload message mode′ (s .told .low)))
+      (sym (map-isOne-map-bit (codedPayload message mode)) ∙ ap (map isOne) same-coded ∙ map-isOne-map-bit (codedPayload message mode′)))
       ∙ whitened-whitened (payload message mode′)
 
   opens : {m : ℕ} → Sendable message m → modeOf (length message) (payload message m) ≡ m
@@ -149,23 +152,23 @@ shut-out =
     record {
       refusesEveryBuild = λ b d. d 20 0 (equal 0) (frameRoom 0) (builds b 0 0 0 (omega arith) (omega arith));
       givesOneFrame = λ b frame d.
-        let first = builds b 0 0 0 (omega arith) (omega arith) in
-        let second = builds b 0 1 0 (omega arith) (omega arith) in
-        let p : Frame (equal 0) 0 frame = subst (λ (f : List ℕ). Frame (equal 0) 0 f) (d 20 0 (equal 0) (frameRoom 0) first) (demand-2 .frame (b .meets 20 0 (equal 0) (frameRoom 0)) first) in
-        let q : Frame (equal 0) 1 frame = subst (λ (f : List ℕ). Frame (equal 0) 1 f) (d 20 1 (equal 0) (frameRoom 0) second) (demand-2 .frame (b .meets 20 1 (equal 0) (frameRoom 0)) second) in
-        let e : _≡_ {A = ℕ} 0 1 = frame-mode (equal-sendable 0 0 (omega arith) (omega arith)) (equal-sendable 0 1 (omega arith) (omega arith)) p q in
-        omega arith;
+          let first = builds b 0 0 0 (omega arith) (omega arith) in
+          let second = builds b 0 1 0 (omega arith) (omega arith) in
+          let p : Frame (equal 0) 0 frame = subst (λ (f : List ℕ). Frame (equal 0) 0 f) (d 20 0 (equal 0) (frameRoom 0) first) (demand-2 .frame (b .meets 20 0 (equal 0) (frameRoom 0)) first) in
+          let q : Frame (equal 0) 1 frame = subst (λ (f : List ℕ). Frame (equal 0) 1 f) (d 20 1 (equal 0) (frameRoom 0) second) (demand-2 .frame (b .meets 20 1 (equal 0) (frameRoom 0)) second) in
+          let e : _≡_ {A = ℕ} 0 1 = frame-mode (equal-sendable 0 0 (omega arith) (omega arith)) (equal-sendable 0 1 (omega arith) (omega arith)) p q in
+          omega arith;
       buildsNothing = λ b d.
-        let p : Frame (equal 0) 0 (take 864 (frameRoom 2)) = subst (λ (f : List ℕ). Frame (equal 0) 0 (take 864 f)) (d 20 0 (equal 0) (frameRoom 2)) (demand-2 .frame (b .meets 20 0 (equal 0) (frameRoom 2)) (builds b 0 0 2 (omega arith) (omega arith))) in
-        let e : _≡_ {A = ℕ} 2 0 = p .pilots 0 0 (omega arith) (omega arith) in
-        omega arith;
+          let p : Frame (equal 0) 0 (take 864 (frameRoom 2)) = subst (λ (f : List ℕ). Frame (equal 0) 0 (take 864 f)) (d 20 0 (equal 0) (frameRoom 2)) (demand-2 .frame (b .meets 20 0 (equal 0) (frameRoom 2)) (builds b 0 0 2 (omega arith) (omega arith))) in
+          let e : _≡_ {A = ℕ} 2 0 = p .pilots 0 0 (omega arith) (omega arith) in
+          omega arith;
       refusesEveryFrame = λ r d. d 20 (marks 0) (values 0) (equal 0) (returns r 0 0 (omega arith) .refusal);
       returnsOneMessage = λ r message d.
-        let first : equal 0 ≡ message = sym (ap (take 20) (written r 0 0 (omega arith))) ∙ d 20 (marks 0) (values 0) (equal 0) (returns r 0 0 (omega arith) .refusal) in
-        let second : equal 1 ≡ message = sym (ap (take 20) (written r 1 0 (omega arith))) ∙ d 20 (marks 1) (values 1) (equal 0) (returns r 1 0 (omega arith) .refusal) in
-        let e : _≡_ {A = ℕ} 0 1 = ap (λ (m : List ℕ). getD m 0 0) (first ∙ sym second) in
-        omega arith;
+          let first : equal 0 ≡ message = sym (ap (take 20) (written r 0 0 (omega arith))) ∙ d 20 (marks 0) (values 0) (equal 0) (returns r 0 0 (omega arith) .refusal) in
+          let second : equal 1 ≡ message = sym (ap (take 20) (written r 1 0 (omega arith))) ∙ d 20 (marks 1) (values 1) (equal 0) (returns r 1 0 (omega arith) .refusal) in
+          let e : _≡_ {A = ℕ} 0 1 = ap (λ (m : List ℕ). getD m 0 0) (first ∙ sym second) in
+          omega arith;
       recoversNothing = λ r d.
-        let e : _≡_ {A = ℕ} 1 0 = ap (λ (m : List ℕ). getD m 0 0) (sym (d 20 (marks 0) (values 0) (equal 1)) ∙ written r 0 1 (omega arith)) in
-        omega arith
+          let e : _≡_ {A = ℕ} 1 0 = ap (λ (m : List ℕ). getD m 0 0) (sym (d 20 (marks 0) (values 0) (equal 1)) ∙ written r 0 1 (omega arith)) in
+          omega arith;
     }

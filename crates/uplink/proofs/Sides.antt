@@ -29,7 +29,7 @@ distance-right (b ∷ bs) (v ∷ vs) r = rw (against-right b v (r 0 (omega arith
 
 -- two runs of coded bits that are not the same are apart by more than nothing
 pub apart-right :
-  (xs ys : List Bool) (vs : List ℕ) → length ys ≡ length xs → length vs ≡ length xs → (xs ≡ ys → ⊥)
+    (xs ys : List Bool) (vs : List ℕ) → length ys ≡ length xs → length vs ≡ length xs → (xs ≡ ys → ⊥)
     → ((j : ℕ) → j < length xs → RightSide (getD xs j false) (getD vs j 0)) → 0 < apart xs ys vs
 unfolding apart xor
 apart-right [] [] vs e f d r = absurd (d refl)

@@ -37,7 +37,7 @@ built-same (Built-is.Done x) (Built-is.Refused y) r s z = absurd (omega (arith, 
 built-same (Built-is.Refused x) (Built-is.Done y) r s z = absurd (omega (arith, z r))
 
 module _ {l mode : ℕ} {message before after after′ : List ℕ} {answer answer′ : Built}
-         (p : Builds l mode message before after answer) (q : Builds l mode message before after′ answer′) where
+    (p : Builds l mode message before after answer) (q : Builds l mode message before after′ answer′) where
   number : ℕ
   number = buildRefusal l mode (length message) (length before)
 
@@ -60,7 +60,7 @@ module _ {l mode : ℕ} {message before after after′ : List ℕ} {answer answe
       go (no d) = p .kept d ∙ sym (q .kept d)
 
 recovered-same :
-  (a b : Recovered) → recoveredRefusal a ≡ recoveredRefusal b → recoveredLength a ≡ recoveredLength b → recoveredMode a ≡ recoveredMode b → recoveredCost a ≡ recoveredCost b
+    (a b : Recovered) → recoveredRefusal a ≡ recoveredRefusal b → recoveredLength a ≡ recoveredLength b → recoveredMode a ≡ recoveredMode b → recoveredCost a ≡ recoveredCost b
     → (recoveredRefusal a ≡ 0 → 0 < recoveredLength a) → a ≡ b
 recovered-same (Recovered-is.Done l m c) (Recovered-is.Done l′ m′ c′) r e f g z = cc
 recovered-same (Recovered-is.Refused x) (Recovered-is.Refused y) r e f g z = ap Recovered-is.Refused r
@@ -78,16 +78,18 @@ recover-told (FirstRecover.silence f s) e = absurd (omega arith)
 recover-told (FirstRecover.opening f s) e = f .told .low
 
 module _ {l : ℕ} {marks values before after after′ : List ℕ} {answer answer′ : Recovered}
-         (p : Recovers l marks values before after answer) (q : Recovers l marks values before after′ answer′) where
+    (p : Recovers l marks values before after answer) (q : Recovers l marks values before after′ answer′) where
   pub recovered-answer-unique : answer ≡ answer′
   recovered-answer-unique =
       recovered-same answer answer′ (p .refusal ∙ sym (q .refusal)) (p .told ∙ sym (q .told)) (p .mode ∙ sym (q .mode)) (p .weight ∙ sym (q .weight)) lengths
     where
       lengths : recoveredRefusal answer ≡ 0 → 0 < recoveredLength answer
       lengths z =
-          omega (arith,
+          omega (
+            arith,
             p .told ∙ ap (λ (t : Bool). cond t l 0) (eq-eqb (recoverRefusal l marks values (length before)) 0 (sym (p .refusal) ∙ z)),
-            recover-told (recover-first l marks values (length before)) (sym (p .refusal) ∙ z))
+            recover-told (recover-first l marks values (length before)) (sym (p .refusal) ∙ z),
+          )
 
   pub recovered-buffer-unique : after ≡ after′
   recovered-buffer-unique = p .message ∙ sym (q .message)

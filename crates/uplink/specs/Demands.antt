@@ -51,16 +51,16 @@ pub data FirstRecover (l : ℕ) (marks values : List ℕ) (room : ℕ) : ℕ →
 -- "Building and recovering take all inputs there are, come to an end, and refuse bad ones by number in a fixed order. The caller owes us no prior check. A refusal changes no byte of any buffer it was lent."
 pub record Demand1 : Type 0 where
   pub buildOrder :
-    {l mode : ℕ} {message before after : List ℕ} {answer : Built}
+      {l mode : ℕ} {message before after : List ℕ} {answer : Built}
       → Builds l mode message before after answer → FirstBuild l mode (length message) (length before) (builtRefusal answer)
   pub recoverOrder :
-    {l : ℕ} {marks values before after : List ℕ} {answer : Recovered}
+      {l : ℕ} {marks values before after : List ℕ} {answer : Recovered}
       → Recovers l marks values before after answer → FirstRecover l marks values (length before) (recoveredRefusal answer)
   pub buildKeeps :
-    {l mode : ℕ} {message before after : List ℕ} {answer : Built}
+      {l mode : ℕ} {message before after : List ℕ} {answer : Built}
       → Builds l mode message before after answer → (builtRefusal answer ≡ 0 → ⊥) → after ≡ before
   pub recoverKeeps :
-    {l : ℕ} {marks values before after : List ℕ} {answer : Recovered}
+      {l : ℕ} {marks values before after : List ℕ} {answer : Recovered}
       → Recovers l marks values before after answer → (recoveredRefusal answer ≡ 0 → ⊥) → after ≡ before
 
 -- a message that can be sent, and its mode
@@ -93,13 +93,13 @@ pub record Behind (l : ℕ) (marks values message : List ℕ) (mode total : ℕ)
 -- "A built frame is bit for bit what TS 103 357 says for the uplink. A frame heard with a non-zero value on the right side for every coded bit, by a receiver told its length and given room for it, comes back as exactly the message and mode it was built from."
 pub record Demand2 : Type 0 where
   pub frame :
-    {l mode : ℕ} {message before after : List ℕ} {answer : Built}
+      {l mode : ℕ} {message before after : List ℕ} {answer : Built}
       → Builds l mode message before after answer → builtRefusal answer ≡ 0 → Frame message mode (take (frameSize l) after)
   pub taken :
-    {mode : ℕ} {message before after : List ℕ} {answer : Built}
+      {mode : ℕ} {message before after : List ℕ} {answer : Built}
       → Builds (length message) mode message before after answer → Sendable message mode → frameSize (length message) ≤ length before → builtRefusal answer ≡ 0
   pub comesBack :
-    {mode : ℕ} {message marks values before after : List ℕ} {answer : Recovered}
+      {mode : ℕ} {message marks values before after : List ℕ} {answer : Recovered}
       → Sendable message mode
       → Formed (length message) marks values (length before)
       → ((j : ℕ) → j < codedBits (length message) → RightSide (getD (codedPayload message mode) j false) (heard (length message) marks values j))
@@ -109,32 +109,32 @@ pub record Demand2 : Type 0 where
 -- "Take every string of payload bits of the told length, its checks good or bad. The one behind a recovered message has coded bits that stand against the received values by a total weight that none of the others undercuts. Among equals it is the one with 0 at the first bit entering the coder where they differ. If a call isn't refused for its form, a frame was built for the told length, and twice the weight heard against it is less than the weight heard at the places where its coded bits differ from those of each other string, that frame's message and mode are returned."
 pub record Demand3 : Type 0 where
   pub behind :
-    {l : ℕ} {marks values before after : List ℕ} {answer : Recovered}
+      {l : ℕ} {marks values before after : List ℕ} {answer : Recovered}
       → Recovers l marks values before after answer → recoveredRefusal answer ≡ 0
       → Behind l marks values (take l after) (recoveredMode answer) (recoveredCost answer)
   pub returned :
-    {mode : ℕ} {message marks values before after : List ℕ} {answer : Recovered}
+      {mode : ℕ} {message marks values before after : List ℕ} {answer : Recovered}
       → Sendable message mode
       → Formed (length message) marks values (length before)
       → ((y : List Bool) → length y ≡ payloadBits (length message) → (y ≡ whitened (payload message mode) → ⊥)
-        → 2 * cost uplinkWords (received (length message) marks values) (whitened (payload message mode))
-          < apart (codedPayload message mode) (coded uplinkWords y) (received (length message) marks values))
+      → 2 * cost uplinkWords (received (length message) marks values) (whitened (payload message mode))
+      < apart (codedPayload message mode) (coded uplinkWords y) (received (length message) marks values))
       → Recovers (length message) marks values before after answer
       → Returned message mode before after answer
 
 -- document 01, "What the contracts have to rule out": no second answer, and no second state of the lent buffer, satisfies a contract
 pub record NoSecond : Type 0 where
   pub buildAnswer :
-    {l mode : ℕ} {message before after after′ : List ℕ} {answer answer′ : Built}
+      {l mode : ℕ} {message before after after′ : List ℕ} {answer answer′ : Built}
       → Builds l mode message before after answer → Builds l mode message before after′ answer′ → answer ≡ answer′
   pub buildBuffer :
-    {l mode : ℕ} {message before after after′ : List ℕ} {answer answer′ : Built}
+      {l mode : ℕ} {message before after after′ : List ℕ} {answer answer′ : Built}
       → Builds l mode message before after answer → Builds l mode message before after′ answer′ → after ≡ after′
   pub recoverAnswer :
-    {l : ℕ} {marks values before after after′ : List ℕ} {answer answer′ : Recovered}
+      {l : ℕ} {marks values before after after′ : List ℕ} {answer answer′ : Recovered}
       → Recovers l marks values before after answer → Recovers l marks values before after′ answer′ → answer ≡ answer′
   pub recoverBuffer :
-    {l : ℕ} {marks values before after after′ : List ℕ} {answer answer′ : Recovered}
+      {l : ℕ} {marks values before after after′ : List ℕ} {answer answer′ : Recovered}
       → Recovers l marks values before after answer → Recovers l marks values before after′ answer′ → after ≡ after′
 
 -- the same number of values, and the same ones in every sub-packet that is heard
@@ -146,16 +146,16 @@ pub record Alike (marks values others : List ℕ) : Type 0 where
 pub record SoftValues : Type 0 where
   -- "All values of a lost sub-packet count as zero, and two runs that differ only there answer alike."
   pub lostAnswer :
-    {l : ℕ} {marks values others before after after′ : List ℕ} {answer answer′ : Recovered}
+      {l : ℕ} {marks values others before after after′ : List ℕ} {answer answer′ : Recovered}
       → Alike marks values others → Recovers l marks values before after answer → Recovers l marks others before after′ answer′ → answer ≡ answer′
   pub lostBuffer :
-    {l : ℕ} {marks values others before after after′ : List ℕ} {answer answer′ : Recovered}
+      {l : ℕ} {marks values others before after after′ : List ℕ} {answer answer′ : Recovered}
       → Alike marks values others → Recovers l marks values before after answer → Recovers l marks others before after′ answer′ → after ≡ after′
   -- "A zero says nothing."
   pub zeroSaysNothing : (b : Bool) → against b 0 ≡ 0
   -- the cost is "at most 795,648"
   pub most :
-    {l : ℕ} {marks values before after : List ℕ} {answer : Recovered}
+      {l : ℕ} {marks values before after : List ℕ} {answer : Recovered}
       → Recovers l marks values before after answer → recoveredCost answer ≤ 795648
 
 -- any program for build: its answer and what it leaves in the buffer, for every input
@@ -174,11 +174,11 @@ pub record Recoverer : Type 0 where
 pub record ShutOut : Type 0 where
   pub refusesEveryBuild : (b : Builder) → ((l mode : ℕ) (message before : List ℕ) → builtRefusal (b .answer l mode message before) ≡ 0 → ⊥) → ⊥
   pub givesOneFrame :
-    (b : Builder) (frame : List ℕ)
+      (b : Builder) (frame : List ℕ)
       → ((l mode : ℕ) (message before : List ℕ) → builtRefusal (b .answer l mode message before) ≡ 0 → take (frameSize l) (b .after l mode message before) ≡ frame) → ⊥
   pub buildsNothing : (b : Builder) → ((l mode : ℕ) (message before : List ℕ) → b .after l mode message before ≡ before) → ⊥
   pub refusesEveryFrame : (r : Recoverer) → ((l : ℕ) (marks values before : List ℕ) → recoveredRefusal (r .answer l marks values before) ≡ 0 → ⊥) → ⊥
   pub returnsOneMessage :
-    (r : Recoverer) (message : List ℕ)
+      (r : Recoverer) (message : List ℕ)
       → ((l : ℕ) (marks values before : List ℕ) → recoveredRefusal (r .answer l marks values before) ≡ 0 → take l (r .after l marks values before) ≡ message) → ⊥
   pub recoversNothing : (r : Recoverer) → ((l : ℕ) (marks values before : List ℕ) → r .after l marks values before ≡ before) → ⊥

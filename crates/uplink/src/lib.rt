@@ -2,7 +2,6 @@
 mod judge;
 
 use payload::Opened;
-
 ghost use mathlib.Core.Path.{_≡_};
 ghost use Rattle.uplink.specs.Build.{Builds};
 ghost use Rattle.uplink.specs.Recover.{Recovers};

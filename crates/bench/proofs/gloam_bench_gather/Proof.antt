@@ -29,7 +29,7 @@ returns-6 : tie.Need-returns-6
 returns-6 c =
     record {
       done = λ g. (refl, c .before .before .gather .ensures);
-      refused = λ d. absurd (d (record { message = record { low = omega arith; high = omega arith }; marked = omega arith; valued = omega arith; room = omega arith }))
+      refused = λ d. absurd (d (record { message = record { low = omega arith; high = omega arith }; marked = omega arith; valued = omega arith; room = omega arith }));
     }
 
 pub gloam-bench-gather-spec : {M : Type 1} → statement M

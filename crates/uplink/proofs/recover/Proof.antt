@@ -24,7 +24,7 @@ openable {l} {marks} {values} {message = message} f p =
       most = f .told .high;
       sized = length-map (opened l marks values) bit ∙ length-opened l marks values;
       room = f .roomy;
-      binary = map-bit-binary (opened l marks values)
+      binary = map-bit-binary (opened l marks values);
     })
 
 returns : tie.Need-returns

@@ -32,11 +32,12 @@ returns c =
     ∙ c .before .before .before .before .before .loop .inv .1
 
 loop-again : tie.Need-loop-again Inv-loop μ-loop
-loop-again c =
-    (omega arith,
-      sym (silent-quiet (c .before .before .before .before .before .before .before .before .args .marks .now) (c .before .before .before .before .before .before .before .before .args .values .now) (c .before .before .before .before .before .loop .s) (c .before .before .before .before .loop-test .taken)
+loop-again c = (
+  omega arith,
+  sym (silent-quiet (c .before .before .before .before .before .before .before .before .args .marks .now) (c .before .before .before .before .before .before .before .before .args .values .now) (c .before .before .before .before .before .loop .s) (c .before .before .before .before .loop-test .taken)
       (sym (part-24 (c .before .before .before .before .before .loop .s) (getD (c .before .before .before .before .before .before .before .before .args .marks .now) (c .before .before .before .before .before .loop .s) 0) (c .before .before .before .before .before .before .before .before .args .values .now)) ∙ sym (c .before .packet-silent .ensures) ∙ not-false (c .before .packet-silent .result) (c .if1 .left)))
-      ∙ c .before .before .before .before .before .loop .inv .1)
+      ∙ c .before .before .before .before .before .loop .inv .1,
+)
 
 returns-2 : tie.Need-returns-2 Inv-loop μ-loop
 returns-2 c = sym (silent-end (c .before .before .before .before .args .marks .now) (drop (24 * c .before .loop .s) (c .before .before .before .before .args .values .now)) (c .before .loop .s) (omega arith)) ∙ c .before .loop .inv .1

@@ -23,7 +23,7 @@ returns-6 : tie.Need-returns-6
 returns-6 c =
     record {
       refused = λ d. absurd (d (omega arith));
-      right = λ e. record { told = (record { low = omega arith; high = omega arith }); marked = omega arith; valued = omega arith; roomy = omega arith }
+      right = λ e. record { told = (record { low = omega arith; high = omega arith }); marked = omega arith; valued = omega arith; roomy = omega arith };
     }
 
 pub sizes-refusal-spec : {M : Type 1} → statement M
