@@ -11,6 +11,7 @@ use borrow.Author.Tests.{eqb-true}
 use lib.Dec.{eqb}
 use lib.ListN.{set}
 use lib.Seq.{sets}
+use Rattle.lists.proofs.Every.{every, every-at, &&-left, &&-right}
 use Rattle.bits.specs.Bits.{bit, bitsOf}
 use Rattle.coder.specs.Coder.{tap, outputs, uplinkWords}
 
@@ -23,25 +24,6 @@ secondSum w = (w / 64 + w / 16 + w / 2 + w) % 2
 
 abbrev pub thirdSum : ℕ → ℕ
 thirdSum w = (w / 64 + w / 16 + w / 8 + w / 4 + w / 2 + w) % 2
-
--- a test that passes at each number below n
-abbrev every : ℕ → (ℕ → Bool) → Bool
-every zero f = true
-every (suc n) f = f n && every n f
-
-&&-left : (a b : Bool) → a && b ≡ true → a ≡ true
-&&-left true b h = refl
-&&-left false b h = h
-
-&&-right : (a b : Bool) → a && b ≡ true → b ≡ true
-&&-right true b h = h
-&&-right false b h = absurd (false≢true h)
-
-every-at : (n : ℕ) (f : ℕ → Bool) → every n f ≡ true → (k : ℕ) → k < n → f k ≡ true
-every-at zero f h k l = absurd (not-suc-le-zero l)
-every-at (suc n) f h k l =
-    ⊎-elim (λ t. rw t (&&-left (f n) (every n f) h)) (λ t. every-at n f (&&-right (f n) (every n f) h) k t)
-    (eq-or-lt-of-le (le-of-suc-le-suc l))
 
 firstRight : ℕ → Bool
 firstRight w = eqb (firstSum w) (bit (tap (uplinkWords .first) (bitsOf 7 w)))

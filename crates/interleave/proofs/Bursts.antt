@@ -12,24 +12,10 @@ use lib.Dec.{ltb, eqb}
 use lib.ListN.{length, getD, length-append, List·getD-append}
 use lib.Seq.{getD-at, ext-getD}
 use borrow.Author.Tests.{ltb-true, ltb-false, lt-ltb, le-ltb}
+use Rattle.lists.proofs.Lists.{length-firsts, getD-firsts}
 use Rattle.interleave.specs.Interleave.{codedBits, subPackets, Placed, corePilot, extensionPilot, pilot, Length, DataSymbol}
-use Rattle.interleave.specs.Bursts.{Bursts, valueOf, heard, firsts, received}
+use Rattle.interleave.specs.Bursts.{Bursts, valueOf, heard, received}
 use Rattle.interleave.proofs.Placed.{placed-onto}
-
--- the first n of a sequence are n ..
-pub length-firsts : (n : ℕ) (f : ℕ → ℕ) → length (firsts n f) ≡ n
-unfolding firsts
-length-firsts zero f = refl
-length-firsts (suc n) f = rw (length-append (firsts n f), length-firsts n f) (add-one n)
-
--- .. each at its place
-pub getD-firsts : (n : ℕ) (f : ℕ → ℕ) (k : ℕ) → k < n → getD (firsts n f) k 0 ≡ f k
-unfolding firsts
-getD-firsts zero f k h = absurd (not-suc-le-zero h)
-getD-firsts (suc n) f k h =
-    ⊎-elim (λ t. rw t (getD-at (firsts n f) (f n) [] 0 n (length-firsts n f)))
-    (λ t. List·getD-append (firsts n f) (f n ∷ []) 0 k (omega (arith, length-firsts n f)) ∙ getD-firsts n f k t)
-    (eq-or-lt-of-le (le-of-suc-le-suc h))
 
 -- a value for each coded bit ..
 pub length-received : (l : ℕ) (marks values : List ℕ) → length (received l marks values) ≡ codedBits l

@@ -10,7 +10,7 @@ use lib.Dec.{eqb, ltb}
 use lib.ListN.{getD}
 use borrow.Author.Tests.{ltb-true, ltb-false, eqb-true, eqb-false}
 use Rattle.interleave.specs.Interleave.{evenRow, oddRow, symbol, DataSymbol}
-use Rattle.interleave.proofs.Every.{every, every-at, &&-left, &&-right}
+use Rattle.lists.proofs.Every.{every, every-at, &&-left, &&-right}
 
 -- of the places of sub-packet s, o is carried by symbol m: the k-th below the pilot counted downwards, or the k-th above it
 pub data Carries (s o m : ℕ) : Type 0 where

@@ -1,6 +1,5 @@
 pub mod Lies
 pub mod Order
-pub mod Every
 pub mod Carries
 pub mod Shift
 pub mod Placed

@@ -6,6 +6,7 @@ use mathlib.Core.Path.{_≡_}
 use Prim.Native.Nat.{ℕ, zero, suc, _+_, _-_, _*_, _<_}
 use lib.Dec.{ltb, eqb}
 use lib.ListN.{length, getD}
+use Rattle.lists.specs.Lists.{firsts}
 use Rattle.interleave.specs.Interleave.{codedBits, subPackets, packetOf, symbolOf, Placed, pilot}
 
 -- "From message to bursts": 36 bytes a burst, bursts in order of s, symbols in order of m; each coded bit stands at its place and the pilot at symbols 12 to 23
@@ -22,11 +23,6 @@ valueOf m = cond (ltb m 12) m (m - 12)
 unfoldable pub heard : ℕ → List ℕ → List ℕ → ℕ → ℕ
 heard l marks values j =
     cond (eqb (getD marks (packetOf l j) 0) 1) (getD values (24 * packetOf l j + valueOf (symbolOf l j)) 0) 0
-
--- f 0, f 1, .. f (n - 1)
-unfoldable pub firsts : ℕ → (ℕ → ℕ) → List ℕ
-firsts zero f = []
-firsts (suc n) f = firsts n f ++ (f n ∷ [])
 
 -- the values heard for all coded bits, in the coder's order
 unfoldable pub received : ℕ → List ℕ → List ℕ → List ℕ

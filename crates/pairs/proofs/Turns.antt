@@ -6,7 +6,7 @@ use native.Mathlib.Omega.{arith}
 use lib.Dec.{ltb, eqb}
 use borrow.Author.Tests.{ltb-true, ltb-false, eqb-true, lt-ltb, le-ltb}
 use Rattle.interleave.specs.Interleave.{Length, Placed, DataSymbol}
-use Rattle.interleave.proofs.Every.{every-at, &&-left, &&-right}
+use Rattle.lists.proofs.Every.{every-at, &&-left, &&-right}
 use Rattle.interleave.proofs.Placed.{placed-data, placed-unique}
 use Rattle.pairs.specs.Turns.{turnOf, gatherTurn, fillTurn}
 

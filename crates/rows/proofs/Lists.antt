@@ -1,4 +1,4 @@
--- A list made of the first values of a function, read at a place; stores into a list, one after the other.
+-- The costs of pairs, read off their halves; stores into a list, one after the other.
 -- Assumes nothing.
 use mathlib.Core.Bool.{Bool, cond}
 use mathlib.Core.List.{List, [], _∷_}
@@ -11,21 +11,8 @@ use borrow.Author.Count.{below-more}
 use borrow.Author.Tests.{lt-ltb, le-ltb}
 use lib.ListN.{length, getD, set, length-append, List·getD-append}
 use lib.Seq.{getD-at, getD-set-same, getD-set-other}
-use Rattle.rows.specs.Rows.{firsts, pairAt, pairsOf}
-
-pub length-firsts : (n : ℕ) (f : ℕ → ℕ) → length (firsts n f) ≡ n
-unfolding firsts
-length-firsts zero f = refl
-length-firsts (suc n) f = omega (arith, length-append (firsts n f) (f n ∷ []), length-firsts n f)
-
-pub getD-firsts : (n : ℕ) (f : ℕ → ℕ) (k : ℕ) → k < n → getD (firsts n f) k 0 ≡ f k
-unfolding firsts
-getD-firsts zero f k h = absurd (not-suc-le-zero h)
-getD-firsts (suc n) f k h =
-    ⊎-elim
-    (λ e. rw e (getD-at (firsts n f) (f n) [] 0 n (length-firsts n f)))
-    (λ l. List·getD-append (firsts n f) (f n ∷ []) 0 k (omega (arith, length-firsts n f)) ∙ getD-firsts n f k l)
-    (eq-or-lt-of-le (le-of-suc-le-suc h))
+use Rattle.lists.proofs.Lists.{getD-firsts}
+use Rattle.rows.specs.Rows.{pairAt, pairsOf}
 
 -- stores of f 0, f 1, .. at the places g 0, g 1, ..: one more
 pub set-grows :

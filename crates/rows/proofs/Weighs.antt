@@ -11,8 +11,10 @@ use Rattle.coder.specs.Coder.{tap, uplinkWords}
 use Rattle.coder.specs.Cost.{weight, against, distance}
 use Rattle.coder.proofs.Cost.{against-both, weight-le}
 use Rattle.trellis.specs.Numbered.{price}
-use Rattle.rows.specs.Rows.{Opposes, Arranged, Weighs, Split, firsts, sumOf, lowHalf, highHalf, pairsOf}
-use Rattle.rows.proofs.Lists.{getD-firsts, pairsOf-low}
+use Rattle.lists.specs.Lists.{firsts}
+use Rattle.lists.proofs.Lists.{getD-firsts}
+use Rattle.rows.specs.Rows.{Opposes, Arranged, Weighs, Split, sumOf, lowHalf, highHalf, pairsOf}
+use Rattle.rows.proofs.Lists.{pairsOf-low}
 
 xor-not-right : (a b : Bool) → xor a (not b) ≡ not (xor a b)
 unfolding xor

@@ -6,15 +6,11 @@ use mathlib.Core.Path.{_≡_}
 use Prim.Native.Nat.{ℕ, zero, suc, _+_, _-_, _*_, _%_, _≤_, _<_, min}
 use lib.Dec.{ltb}
 use lib.ListN.{length, getD}
+use Rattle.lists.specs.Lists.{firsts}
 use Rattle.bits.specs.Bits.{bit}
 use Rattle.coder.specs.Coder.{uplinkWords}
 use Rattle.coder.specs.Cost.{against}
 use Rattle.trellis.specs.Numbered.{price}
-
--- f 0, f 1, .. f (n - 1)
-unfoldable pub firsts : ℕ → (ℕ → ℕ) → List ℕ
-firsts zero f = []
-firsts (suc n) f = firsts n f ++ (f n ∷ [])
 
 -- what the value v has against the coded bit b
 pub record Opposes (b : Bool) (v r : ℕ) : Type 0 where

@@ -10,8 +10,9 @@ use borrow.Author.Tests.{lt-ltb, le-ltb}
 use lib.Dec.{ltb, eqb}
 use lib.ListN.{length, getD, replicate, length-replicate, getD-replicate}
 use Rattle.interleave.specs.Interleave.{codedBits, subPackets, packetOf, symbolOf, Placed, Length, DataSymbol}
-use Rattle.interleave.specs.Bursts.{valueOf, heard, firsts}
-use Rattle.interleave.proofs.Bursts.{length-firsts, getD-firsts}
+use Rattle.lists.specs.Lists.{firsts}
+use Rattle.lists.proofs.Lists.{length-firsts, getD-firsts}
+use Rattle.interleave.specs.Bursts.{valueOf, heard}
 use Rattle.interleave.proofs.Placed.{placed-here, placed-packet, placed-data, placed-unique, placed-onto}
 use Rattle.uplink.specs.Recover.{marksGood}
 use Rattle.uplink.specs.Demands.{Formed, RightSide}

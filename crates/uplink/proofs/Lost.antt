@@ -12,7 +12,8 @@ use lib.Dec.{eqb, ltb}
 use lib.ListN.{length, getD, take, drop, length-take, length-drop}
 use lib.Seq.{ext-getD, getD-take, getD-drop}
 use Rattle.interleave.specs.Interleave.{codedBits, packetOf, symbolOf, Length}
-use Rattle.interleave.specs.Bursts.{valueOf, heard, firsts, received}
+use Rattle.lists.specs.Lists.{firsts}
+use Rattle.interleave.specs.Bursts.{valueOf, heard, received}
 use Rattle.interleave.proofs.Placed.{placed-here, placed-data}
 use Rattle.uplink.specs.Recover.{zeros, silent, marksGood}
 use Rattle.uplink.specs.Build.{lengthWrong}
