@@ -1,0 +1,10 @@
+pub mod Appending
+pub mod Packets
+pub mod Storing
+pub mod Heads
+pub mod Whole
+pub mod Refusals
+pub mod ReadRefusals
+pub mod Answering
+pub mod Unique
+pub mod Promises
