@@ -13,8 +13,9 @@ use Rattle.capture.specs.declared.Read.the-variants as Read-is
 use Rattle.capture.specs.Capture.{field, packets, captureOf, captureSize}
 use Rattle.capture.specs.Writing.{writeRefusal, Writes}
 use Rattle.capture.specs.Reading.{toldIn, valuesFrom, valuesIn, readRefusal, Reads}
-use Rattle.capture.specs.Parts.{Appends, FieldFits, PacketsFit, Writable, ValuesFit}
-use Rattle.capture.proofs.Appending.{appends-then, appends-length, appends-front}
+use Rattle.buffers.specs.Buffers.{Appends}
+use Rattle.capture.specs.Parts.{FieldFits, PacketsFit, Writable, ValuesFit}
+use Rattle.buffers.proofs.Appending.{appends-then, appends-length, appends-front}
 use Rattle.capture.proofs.Packets.{length-field, length-captureOf}
 use Rattle.capture.proofs.Heads.{tail-part}
 use Rattle.capture.proofs.Whole.{whole-size, length-marksIn}

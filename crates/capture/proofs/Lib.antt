@@ -1,4 +1,3 @@
-pub mod Appending
 pub mod Packets
 pub mod Storing
 pub mod Heads

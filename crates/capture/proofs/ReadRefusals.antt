@@ -14,7 +14,8 @@ use Rattle.uplink.specs.Recover.{marksGood}
 use Rattle.capture.specs.Reading.{firstField, toldIn, marksIn, whole, readRefusal}
 use Rattle.capture.specs.Parts.{Opening}
 use Rattle.capture.proofs.Heads.{and-left}
-use Rattle.capture.proofs.Refusals.{lengthWrong-short, lengthWrong-right, lengthWrong-told, or-left, or-right}
+use Rattle.uplink.proofs.Refusals.{lengthWrong-short, lengthWrong-right}
+use Rattle.capture.proofs.Refusals.{lengthWrong-told, or-left, or-right}
 
 module _ (c : List ℕ) (room₁ room₂ : ℕ) where
   pub read-first : firstField c ≡ false → readRefusal c room₁ room₂ ≡ 10

@@ -11,18 +11,10 @@ use lib.ListN.{length}
 use Rattle.interleave.specs.Interleave.{Length}
 use Rattle.uplink.specs.Build.{lengthWrong}
 use Rattle.uplink.specs.Recover.{marksGood}
+use Rattle.uplink.proofs.Refusals.{lengthWrong-short, lengthWrong-long, lengthWrong-right}
 use Rattle.capture.specs.Capture.{captureSize}
 use Rattle.capture.specs.Writing.{writeRefusal}
 use Rattle.capture.specs.Parts.{Writable}
-
-pub lengthWrong-short : (l : ℕ) → l < 20 → lengthWrong l ≡ true
-lengthWrong-short l h = rw (lt-ltb l 20 h)
-
-pub lengthWrong-long : (l : ℕ) → 255 < l → lengthWrong l ≡ true
-lengthWrong-long l h = rw (le-ltb l 20 (omega arith), lt-ltb 255 l h)
-
-pub lengthWrong-right : {l : ℕ} → Length l → lengthWrong l ≡ false
-lengthWrong-right {l} h = rw (le-ltb l 20 (h .low), le-ltb 255 l (h .high))
 
 pub or-left : (a b : Bool) → (a || b) ≡ false → a ≡ false
 or-left true b e = e

@@ -8,8 +8,9 @@ use lib.ListN.{length, take, drop, length-drop}
 use lib.Seq.{length-take-le}
 use Rattle.capture.specs.Capture.{field, packets}
 use Rattle.capture.specs.Reading.{valuesFrom}
-use Rattle.capture.specs.Parts.{Appends, FieldFits, PacketsFit, ValuesFit}
-use Rattle.capture.proofs.Appending.{appends-none, appends-then, appends-length, appends-front}
+use Rattle.buffers.specs.Buffers.{Appends}
+use Rattle.capture.specs.Parts.{FieldFits, PacketsFit, ValuesFit}
+use Rattle.buffers.proofs.Appending.{appends-none, appends-then, appends-length, appends-front}
 use Rattle.capture.proofs.Packets.{packets-more, valuesFrom-more, length-packets, length-valuesFrom}
 
 pub appends-field :

@@ -5,15 +5,9 @@ use mathlib.Core.List.{List, [], _∷_}
 use mathlib.Core.Path.{_≡_}
 use Prim.Native.Nat.{ℕ, zero, suc, _+_, _*_, _/_, _%_, _≤_, _<_}
 use lib.ListN.{length, take, drop}
-use lib.Seq.{sets}
 use Rattle.interleave.specs.Interleave.{Length}
 use Rattle.capture.specs.Capture.{captureSize}
 use Rattle.capture.specs.Reading.{sameBytes, firstField, toldIn}
-
--- the bytes stand in the buffer from `at` on, the rest is as before, and `next` is the place after them
-pub record Appends (old : List ℕ) (at : ℕ) (bytes new : List ℕ) (next : ℕ) : Type 0 where
-  pub stored : new ≡ sets old at bytes
-  pub ends : next ≡ at + length bytes
 
 -- a value whose length two bytes hold, and room for its field
 pub record FieldFits (value out : List ℕ) (at : ℕ) : Type 0 where

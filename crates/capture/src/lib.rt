@@ -1,5 +1,4 @@
 // The stored capture, document 01: what a receiver heard of one frame, as tagged fields. Neither writing nor reading asks anything of its caller.
-mod bytes;
 mod reading;
 mod writing;
 
@@ -40,7 +39,7 @@ pub fn read_back(capture: &[u8], marks: &mut [u8], values: &mut [u8]) -> Read
         return Read::Refused(refusal);
     }
     let l = reading::wide(capture[3]);
-    bytes::copy_in(&capture[7..11 + l], marks, 0);
+    buffers::copy_in(&capture[7..11 + l], marks, 0);
     reading::take_values(&capture[11 + l..], l + 4, values);
     Read::Done(l as u32)
 }

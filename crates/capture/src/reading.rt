@@ -1,5 +1,4 @@
 // Reading a capture: its form, what is refused, and the values behind the heads of their fields.
-use crate::bytes;
 ghost use mathlib.Core.List.{_++_};
 ghost use mathlib.Core.Path.{_≡_};
 ghost use Prim.Native.Nat.{_*_};
@@ -83,7 +82,7 @@ pub fn read_refusal(c: &[u8], marks: usize, values: usize) -> u32
     if !is_whole(l, c) {
         return 10;
     }
-    if !bytes::marks_good(&c[7..11 + l]) {
+    if !uplink::judge::marks_good(&c[7..11 + l]) {
         return 5;
     }
     if marks < l + 4 {
@@ -104,7 +103,7 @@ pub fn take_values(c: &[u8], count: usize, values: &mut [u8])
     let mut s = 0;
     while s < count {
         let from = 27 * s + 3;
-        next = bytes::copy_in(&c[from..from + 24], values, next);
+        next = buffers::copy_in(&c[from..from + 24], values, next);
         s += 1;
     }
 }

@@ -1,11 +1,11 @@
 // Writing a capture: what is refused, and the fields one after the other.
-use crate::bytes;
 ghost use mathlib.Core.List.{_++_};
 ghost use mathlib.Core.Path.{_≡_};
 ghost use lib.ListN.{length, drop};
 ghost use Rattle.capture.specs.Capture.{field, packets, captureOf, captureSize};
 ghost use Rattle.capture.specs.Writing.{writeRefusal};
-ghost use Rattle.capture.specs.Parts.{Appends, FieldFits, PacketsFit, Writable};
+ghost use Rattle.capture.specs.Parts.{FieldFits, PacketsFit, Writable};
+ghost use Rattle.buffers.specs.Buffers.{Appends};
 
 // The first refusal of writing that holds of 1, 2, 3, 5, or 0.
 pub fn write_refusal(l: u64, marks: &[u8], values: &[u8], room: usize) -> u32
@@ -27,7 +27,7 @@ pub fn write_refusal(l: u64, marks: &[u8], values: &[u8], room: usize) -> u32
     if room < 119 + 28 * told {
         return 3;
     }
-    if !bytes::marks_good(marks) {
+    if !uplink::judge::marks_good(marks) {
         return 5;
     }
     0
@@ -40,8 +40,8 @@ fn put_field(tag: u8, value: &[u8], out: &mut [u8], at: usize) -> usize
 {
     let size = value.len();
     let head = [tag, (size / 256) as u8, (size % 256) as u8];
-    let next = bytes::copy_in(&head, out, at);
-    bytes::copy_in(value, out, next)
+    let next = buffers::copy_in(&head, out, at);
+    buffers::copy_in(value, out, next)
 }
 
 // Stores so many fields of tag 03 from `at` on, 24 values each. Gives the place after them.

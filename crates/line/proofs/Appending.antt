@@ -34,24 +34,6 @@ appends-one old at x h =
       front = ap (λ (n : ℕ). take n (set old at x)) (add-one at) ∙ take-suc-set old at x h;
     }
 
--- no bytes of a run yet
-pub appends-start : (old : List ℕ) (at : ℕ) → Appends old at [] old (at + 0)
-appends-start old at = rw (add-zero at) (appends-none old at)
-
--- the first bytes of a run, one more of them
-pub appends-more : {old mid : List ℕ} {at : ℕ} (src : List ℕ) (i : ℕ) → i < length src → at + length src ≤ length old
-    → Appends old at (take i src) mid (at + i) → Appends old at (take (i + 1) src) (set mid (at + i) (getD src i 0)) (at + (i + 1))
-appends-more {old} {mid} {at} src i h room p =
-    let next : at + (i + 1) ≡ at + i + 1 = omega arith in
-    let longer : take (i + 1) src ≡ take i src ++ (getD src i 0 ∷ []) =
-    ap (λ (n : ℕ). take n src) (add-one i) ∙ take-suc src i 0 h in
-    rw (next, longer) (appends-then p (appends-one mid (at + i) (getD src i 0) (omega (arith, p .sized))))
-
--- all of a run
-pub appends-all : {old mid : List ℕ} {at : ℕ} (src : List ℕ) (i : ℕ) → length src ≤ i
-    → Appends old at (take i src) mid (at + i) → Appends old at src mid (at + i)
-appends-all src i h p = rw (take-all i src h) at p
-
 -- two digits, one behind the other
 pub hex-pair : {old mid new : List ℕ} {at middle next high low : ℕ} (x : ℕ) → high ≡ hexDigit (x / 16) → low ≡ hexDigit (x % 16)
     → Appends old at (high ∷ []) mid middle → Appends mid middle (low ∷ []) new next

@@ -23,12 +23,7 @@ fn put_bytes(bytes: &[u8], out: &mut [u8], at: usize) -> usize
     requires { ⌜ at + length (now bytes) ≤ length (now out) ⌝ }
     ensures { λ r. ⌜ Appends (now (out .entry)) at (now (bytes .entry)) (now (out .exit)) r ⌝ }
 {
-    let mut i: usize = 0;
-    while i < bytes.len() {
-        out[at + i] = bytes[i];
-        i += 1;
-    }
-    at + i
+    buffers::copy_in(bytes, out, at)
 }
 
 // Puts a number in decimal, ten digits at most, from `at` on, and answers the index behind it.

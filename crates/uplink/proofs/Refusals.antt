@@ -15,13 +15,13 @@ use Rattle.uplink.specs.Build.{lengthWrong, frameSize, buildRefusal}
 use Rattle.uplink.specs.Recover.{marksGood, silent, opened, recoverRefusal}
 use Rattle.uplink.specs.Demands.{FirstBuild, FirstRecover, Formed}
 
-lengthWrong-short : (l : ℕ) → l < 20 → lengthWrong l ≡ true
+pub lengthWrong-short : (l : ℕ) → l < 20 → lengthWrong l ≡ true
 lengthWrong-short l h = rw (lt-ltb l 20 h)
 
-lengthWrong-long : (l : ℕ) → 255 < l → lengthWrong l ≡ true
+pub lengthWrong-long : (l : ℕ) → 255 < l → lengthWrong l ≡ true
 lengthWrong-long l h = rw (le-ltb l 20 (omega arith), lt-ltb 255 l h)
 
-lengthWrong-right : {l : ℕ} → Length l → lengthWrong l ≡ false
+pub lengthWrong-right : {l : ℕ} → Length l → lengthWrong l ≡ false
 lengthWrong-right {l} h = rw (le-ltb l 20 (h .low), le-ltb 255 l (h .high))
 
 module _ (l mode size room : ℕ) where

@@ -55,7 +55,7 @@ fn sizes_refusal(l: u64, marks: &[u8], values: &[u8], room: usize) -> u32
 }
 
 // Every mark is 0 or 1.
-fn marks_good(marks: &[u8]) -> bool
+pub fn marks_good(marks: &[u8]) -> bool
     ensures { λ r. ⌜ r ≡ marksGood (now (marks .entry)) ⌝ }
 {
     let mut i = 0;

@@ -1,5 +1,5 @@
 // Building and recovering the uplink frame of a message, document 01. Neither asks anything of its caller: what cannot be taken is refused by its number.
-mod judge;
+pub mod judge;
 
 use payload::Opened;
 ghost use mathlib.Core.Path.{_≡_};

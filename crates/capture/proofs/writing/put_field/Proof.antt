@@ -1,7 +1,7 @@
 -- `capture::writing::put_field` meets its contract: the head and then the value are the field. Assumes nothing.
 use native.Mathlib.Omega.{arith}
 use borrow.Author.Needs.{needs}
-use Rattle.capture.proofs.Appending.{appends-length}
+use Rattle.buffers.proofs.Appending.{appends-length}
 use Rattle.capture.proofs.Storing.{appends-field}
 use Rattle.capture.proofs.writing.put_field.Statement.{statement}
 use Rattle.capture.proofs.writing.put_field.Tie as tie

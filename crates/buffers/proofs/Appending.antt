@@ -6,8 +6,8 @@ use Prim.Native.Nat.{ℕ, suc, _+_, _≤_, _<_}
 use native.Mathlib.Numerals.{add-one}
 use native.Mathlib.Omega.{arith}
 use lib.ListN.{length, getD, set, take, drop, length-append, length-set}
-use lib.Seq.{sets, sets-eq, length-sets, take-suc, take-all}
-use Rattle.capture.specs.Parts.{Appends}
+use lib.Seq.{sets, sets-eq, length-sets, length-take-le, take-suc, take-all, take-at}
+use Rattle.buffers.specs.Buffers.{Appends}
 
 -- one run of stores after another
 sets-append : (xs ys old : List ℕ) (at : ℕ) → sets (sets old at xs) (at + length xs) ys ≡ sets old at (xs ++ ys)
@@ -62,3 +62,9 @@ copying-step {src} {old} {out} {at} {i} p h =
 
 pub copying-end : {src old out : List ℕ} {at i : ℕ} → Copying src old out at i → length src ≤ i → Appends old at src out (at + i)
 copying-end {src} {old} {out} {at} {i} p h = rw (take-all i src h) at (p .done)
+
+-- what stands before the place after the bytes: all that stood before them, and then they
+pub take-appends : {old new xs : List ℕ} {at next : ℕ} → Appends old at xs new next → at + length xs ≤ length old → take next new ≡ take at old ++ xs
+take-appends {old} {new} {xs} {at} {next} p h =
+    let sized : length (take at old ++ xs) ≡ next = omega (arith, length-append (take at old) xs, length-take-le at old (omega arith), p .ends) in
+    ap (take next) (p .stored ∙ sets-eq xs old at h) ∙ take-at (take at old ++ xs) (drop (at + length xs) old) next sized

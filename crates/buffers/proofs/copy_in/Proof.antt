@@ -1,10 +1,10 @@
--- `capture::bytes::copy_in` meets its contract. The loop's invariant: the bytes before i are stored (`Copying`). Assumes nothing.
+-- `buffers::copy_in` meets its contract. The loop's invariant: the bytes before i are stored (`Copying`). Assumes nothing.
 use Prim.Native.Nat.{_-_}
 use native.Mathlib.Omega.{arith}
 use lib.ListN.{length}
-use Rattle.capture.proofs.Appending.{Copying, copying-start, copying-step, copying-end}
-use Rattle.capture.proofs.bytes.copy_in.Statement.{statement}
-use Rattle.capture.proofs.bytes.copy_in.Tie as tie
+use Rattle.buffers.proofs.Appending.{Copying, copying-start, copying-step, copying-end}
+use Rattle.buffers.proofs.copy_in.Statement.{statement}
+use Rattle.buffers.proofs.copy_in.Tie as tie
 
 abbrev Inv-loop : tie.InvT-loop
 Inv-loop src out₀ at i₀ out i = Copying src out₀ out at i
