@@ -1,24 +1,25 @@
-/* The benchmark: recovery and its search, from the proved archive, against libosmocore's decoder alone, in one run on the same soft values:
- * a built frame of random bytes, heard with noise and with one sub-packet in eight lost. Each round measures every candidate in turn; the least
- * time of all rounds counts. See docs/CHANGES.md for figures. */
+/* The benchmark: the four calls of the C interface, and the steps of recovery by themselves, against libosmocore's decoder alone, in one run on
+ * the same soft values: a built frame of random bytes, heard with noise and with one sub-packet in eight lost. Each round measures every
+ * candidate in turn; the least time of all rounds counts. No buffer is cleared between calls. See docs/CHANGES.md for figures. */
 #include <stdint.h>
 #include <stdio.h>
 #include <stdlib.h>
 #include <string.h>
 #include <time.h>
 
+#include "gloamstrother.h"
+
+/* The steps of recovery, from the archive of the benchmark's own. */
 uint32_t gloam_bench_search(const uint8_t *values, size_t values_size, size_t n, uint8_t *bits, size_t bits_size);
 uint32_t gloam_bench_gather(size_t l, const uint8_t *marks, size_t marks_size, const uint8_t *values, size_t values_size, uint8_t *out, size_t out_size);
 void gloam_bench_whiten(uint8_t *bits, size_t bits_size);
-uint32_t gloam_bench_recover(uint64_t l, const uint8_t *marks, size_t marks_size, const uint8_t *values, size_t values_size, uint8_t *message, size_t message_size);
-uint32_t gloam_bench_build(uint64_t l, uint64_t mode, const uint8_t *message, size_t message_size, uint8_t *frame, size_t frame_size);
 
 #ifdef WITH_OSMOCORE
 #include <osmocom/core/bits.h>
 #include <osmocom/core/conv.h>
 #endif
 
-enum { ROUNDS = 21, MOST_LENGTH = 255, MOST_PACKETS = MOST_LENGTH + 4, MOST_BITS = 2066, MOST_VALUES = 3 * (MOST_BITS + 6) };
+enum { ROUNDS = 21, MOST_BITS = 2066, MOST_CODED = 3 * (MOST_BITS + 6) };
 
 static uint64_t seed = 20261115;
 static uint32_t next_random(void)
@@ -29,24 +30,65 @@ static uint32_t next_random(void)
     return (uint32_t)(seed >> 32);
 }
 
-/* One message, its frame as it is sent and as it is heard. */
+/* One message, its frame as it is sent and as it is heard, and its stored capture. */
 struct heard_frame {
-    size_t l, packets;
-    uint8_t message[MOST_LENGTH];
-    uint8_t frame[36 * MOST_PACKETS];
-    uint8_t marks[MOST_PACKETS];
-    uint8_t values[24 * MOST_PACKETS];
+    size_t l;
+    uint8_t message[GLOAM_MOST_MESSAGE_SIZE];
+    uint8_t frame[GLOAM_MOST_FRAME_SIZE];
+    uint8_t marks[GLOAM_MOST_MARKS_SIZE];
+    uint8_t values[GLOAM_MOST_VALUES_SIZE];
+    uint8_t capture[GLOAM_MOST_CAPTURE_SIZE];
 };
+
+/* A call that is measured must not be refused: its time would be of something else. */
+static void must(uint32_t refusal)
+{
+    if (refusal != 0) {
+        fprintf(stderr, "a call that is measured was refused with %u\n", (unsigned)refusal);
+        exit(2);
+    }
+}
+
+/* The four calls on one frame; what they write lies beside it. */
+static void build(struct heard_frame *f)
+{
+    must(gloam_uplink_build(f->l, 1, f->message, f->l, f->frame, GLOAM_FRAME_SIZE(f->l)).refusal);
+}
+
+static void recover(const struct heard_frame *f, uint8_t *message)
+{
+    must(gloam_uplink_recover(f->l, f->marks, GLOAM_MARKS_SIZE(f->l), f->values, GLOAM_VALUES_SIZE(f->l), message, f->l).refusal);
+}
+
+static void write_capture(struct heard_frame *f)
+{
+    must(gloam_capture_write(f->l, f->marks, GLOAM_MARKS_SIZE(f->l), f->values, GLOAM_VALUES_SIZE(f->l), f->capture, GLOAM_CAPTURE_SIZE(f->l)).refusal);
+}
+
+static void read_capture(struct heard_frame *f)
+{
+    must(gloam_capture_read(f->capture, GLOAM_CAPTURE_SIZE(f->l), f->marks, GLOAM_MARKS_SIZE(f->l), f->values, GLOAM_VALUES_SIZE(f->l)).refusal);
+}
+
+/* The values in the coder's order, one of recovery's steps. */
+static void gather(const struct heard_frame *f, uint8_t *received)
+{
+    must(gloam_bench_gather(f->l, f->marks, GLOAM_MARKS_SIZE(f->l), f->values, GLOAM_VALUES_SIZE(f->l), received, 96 + 24 * f->l));
+}
+
+/* The nearest string of n bits, another step; its cost is below the number that stands for a wrong size. */
+static void search(const uint8_t *received, size_t n, uint8_t *bits)
+{
+    must(gloam_bench_search(received, 3 * (n + 6), n, bits, n) == UINT32_MAX);
+}
 
 static void make_frame(struct heard_frame *f, size_t l)
 {
     f->l = l;
-    f->packets = l + 4;
     for (size_t k = 0; k < l; k++)
         f->message[k] = (uint8_t)next_random();
-    if (gloam_bench_build(l, 1, f->message, l, f->frame, 36 * f->packets) != 0)
-        exit(2);
-    for (size_t s = 0; s < f->packets; s++) {
+    build(f);
+    for (size_t s = 0; s < GLOAM_SUB_PACKETS(l); s++) {
         f->marks[s] = next_random() % 8 != 0;
         for (size_t p = 0; p < 24; p++) {
             int strength = 40 + (int)(next_random() % 60) - (int)(next_random() % 60);
@@ -54,6 +96,7 @@ static void make_frame(struct heard_frame *f, size_t l)
             f->values[24 * s + p] = (uint8_t)(int8_t)(value > 127 ? 127 : value < -127 ? -127 : value);
         }
     }
+    write_capture(f);
 }
 
 static double now_ns(void)
@@ -99,7 +142,7 @@ static void make_osmo_code(struct osmo_conv_code *code, size_t n)
 #endif
 
 struct times {
-    double recover, gather, search, whiten, build, theirs;
+    double recover, gather, search, whiten, build, write, read, theirs;
 };
 
 /* The time of one call of WHAT, in ns, where it is less than the least so far. */
@@ -112,45 +155,42 @@ struct times {
         (least) = took_ < (least) ? took_ : (least);               \
     } while (0)
 
-static void must(uint32_t refusal)
-{
-    if (refusal == UINT32_MAX)
-        exit(2);
-}
-
 static struct times measure(size_t l, int repeats)
 {
     static struct heard_frame f;
-    static uint8_t received[MOST_VALUES], bits[MOST_BITS], message[MOST_LENGTH], frame[36 * MOST_PACKETS];
-    struct times best = {1e18, 1e18, 1e18, 1e18, 1e18, 1e18};
-    size_t n = 26 + 8 * l, count = 3 * (n + 6);
+    static uint8_t received[MOST_CODED], bits[MOST_BITS], message[GLOAM_MOST_MESSAGE_SIZE];
+    struct times best = {1e18, 1e18, 1e18, 1e18, 1e18, 1e18, 1e18, 1e18};
+    size_t n = 26 + 8 * l;
     make_frame(&f, l);
-    must(gloam_bench_gather(l, f.marks, f.packets, f.values, 24 * f.packets, received, count));
+    gather(&f, received);
 #ifdef WITH_OSMOCORE
-    static sbit_t soft[MOST_VALUES];
+    static sbit_t soft[MOST_CODED];
     static ubit_t decoded[MOST_BITS];
     struct osmo_conv_code code;
     make_osmo_code(&code, n);
     /* libosmocore takes a positive value for 0. */
-    for (size_t k = 0; k < count; k++)
+    for (size_t k = 0; k < 3 * (n + 6); k++)
         soft[k] = (sbit_t)-(int8_t)received[k];
 #endif
     for (int round = 0; round < ROUNDS; round++) {
-        MEASURE(best.recover, repeats, must(gloam_bench_recover(l, f.marks, f.packets, f.values, 24 * f.packets, message, l)));
+        MEASURE(best.recover, repeats, recover(&f, message));
 #ifdef WITH_OSMOCORE
         MEASURE(best.theirs, repeats, osmo_conv_decode(&code, soft, decoded));
 #endif
-        MEASURE(best.search, repeats, must(gloam_bench_search(received, count, n, bits, n)));
-        MEASURE(best.gather, repeats, must(gloam_bench_gather(l, f.marks, f.packets, f.values, 24 * f.packets, received, count)));
+        MEASURE(best.search, repeats, search(received, n, bits));
+        MEASURE(best.gather, repeats, gather(&f, received));
         MEASURE(best.whiten, repeats, gloam_bench_whiten(bits, n));
-        MEASURE(best.build, repeats, must(gloam_bench_build(l, 1, f.message, l, frame, 36 * f.packets)));
+        MEASURE(best.build, repeats, build(&f));
+        MEASURE(best.write, repeats, write_capture(&f));
+        MEASURE(best.read, repeats, read_capture(&f));
     }
-    must(gloam_bench_search(received, count, n, bits, n));
+    search(received, n, bits);
 #ifdef WITH_OSMOCORE
     if (memcmp(bits, decoded, n) != 0)
         printf("note: libosmocore decodes another string of %zu bits\n", n);
 #endif
-    if (gloam_bench_recover(l, f.marks, f.packets, f.values, 24 * f.packets, message, l) != 0 || memcmp(message, f.message, l) != 0)
+    recover(&f, message);
+    if (memcmp(message, f.message, l) != 0)
         printf("note: with this noise the message of %zu bytes is not the one sent\n", l);
     return best;
 }
@@ -159,13 +199,13 @@ int main(void)
 {
     static const size_t lengths[] = {20, 50, 100, 150, 200, 255};
     double ratio20 = 0, ratio255 = 0;
-    printf("times in ns; a step of the trellis is one payload or tail bit; rest = checks, silence, opening\n");
-    printf("L    recover  search   gather  whiten  rest    build    search a step  recover a step  libosmocore  search ratio  recover ratio\n");
+    printf("times in ns; a step of the trellis is one payload or tail bit; rest = checks, silence, opening; outside = the part of recovery outside the search\n");
+    printf("L    recover  search   gather  whiten  rest    outside  build   write   read    search a step  recover a step  libosmocore  search ratio  recover ratio\n");
     for (size_t i = 0; i < sizeof lengths / sizeof *lengths; i++) {
         size_t l = lengths[i], n = 26 + 8 * l;
         struct times t = measure(l, (int)(200000 / n) + 1);
-        double steps = (double)(n + 6), rest = t.recover - t.search - t.gather - t.whiten;
-        printf("%-4zu %-8.0f %-8.0f %-7.0f %-7.0f %-7.0f %-8.0f %-14.2f %-15.2f ", l, t.recover, t.search, t.gather, t.whiten, rest, t.build, t.search / steps, t.recover / steps);
+        double steps = (double)(n + 6), rest = t.recover - t.search - t.gather - t.whiten, outside = 100 * (1 - t.search / t.recover);
+        printf("%-4zu %-8.0f %-8.0f %-7.0f %-7.0f %-7.0f %3.0f %%    %-7.0f %-7.0f %-7.0f %-14.2f %-15.2f ", l, t.recover, t.search, t.gather, t.whiten, rest, outside, t.build, t.write, t.read, t.search / steps, t.recover / steps);
 #ifdef WITH_OSMOCORE
         printf("%-12.0f %-13.2f %.2f\n", t.theirs, t.search / t.theirs, t.recover / t.theirs);
         ratio20 = l == 20 ? t.recover / t.theirs : ratio20;

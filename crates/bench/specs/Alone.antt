@@ -8,11 +8,6 @@ use Rattle.interleave.specs.Interleave.{codedBits}
 use Rattle.interleave.specs.Bursts.{received}
 use Rattle.placing.specs.Placing.{GatherSizes}
 use Rattle.search.specs.Search.{Heard, Found}
-use Rattle.uplink.specs.declared.Built.{Built}
-use Rattle.uplink.specs.declared.Recovered.{Recovered}
-use Rattle.uplink.specs.Answers.{builtRefusal, recoveredRefusal}
-use Rattle.uplink.specs.Build.{Builds}
-use Rattle.uplink.specs.Recover.{Recovers}
 
 -- the nearest string and its cost, or that the sizes are wrong
 pub record Answered (values : List ℕ) (n : ℕ) (before after : List ℕ) (r : ℕ) : Type 0 where
@@ -23,14 +18,3 @@ pub record Answered (values : List ℕ) (n : ℕ) (before after : List ℕ) (r :
 pub record Gathers (l : ℕ) (marks values before after : List ℕ) (r : ℕ) : Type 0 where
   pub done : GatherSizes l marks values before → (r ≡ 0) × (after ≡ received l marks values ++ drop (codedBits l) before)
   pub refused : (GatherSizes l marks values before → ⊥) → (r ≡ 4294967295) × (after ≡ before)
-
--- the number of an answer that meets the contract
-pub record HandsRecovered (l : ℕ) (marks values before after : List ℕ) (r : ℕ) : Type 0 where
-  pub answer : Recovered
-  pub meets : Recovers l marks values before after answer
-  pub number : r ≡ recoveredRefusal answer
-
-pub record HandsBuilt (l mode : ℕ) (message before after : List ℕ) (r : ℕ) : Type 0 where
-  pub answer : Built
-  pub meets : Builds l mode message before after answer
-  pub number : r ≡ builtRefusal answer

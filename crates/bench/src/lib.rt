@@ -1,11 +1,9 @@
-// The search, its neighbours and the whole recovery, for the benchmark: a C program lends them buffers. No part of the product's own C interface.
-use uplink::Built;
-use uplink::Recovered;
+// The search and its neighbours, for the benchmark: a C program lends them buffers. No part of the product's own C interface, which is the gateway's.
 ghost use mathlib.Core.List.{map};
 ghost use mathlib.Core.Path.{_≡_};
 ghost use Rattle.bits.specs.Bits.{bit, isOne};
 ghost use Rattle.whiten.specs.Whiten.{whitened};
-ghost use Rattle.bench.specs.Alone.{Answered, Gathers, HandsRecovered, HandsBuilt};
+ghost use Rattle.bench.specs.Alone.{Answered, Gathers};
 
 // What is answered where the sizes are wrong; no string costs as much.
 pub const REFUSED: u32 = 4294967295;
@@ -57,37 +55,4 @@ pub extern "C" fn gloam_bench_whiten(bits: &mut [u8])
     ensures { λ _. ⌜ now (bits .exit) ≡ map bit (whitened (map isOne (now (bits .entry)))) ⌝ }
 {
     whiten::apply(bits);
-}
-
-// The refusal of the whole recovery, 0 where the message is written.
-#[no_mangle]
-pub extern "C" fn gloam_bench_recover(
-    l: u64,
-    marks: &[u8],
-    values: &[u8],
-    message: &mut [u8],
-) -> u32
-    ensures { λ r. ⌜ HandsRecovered l (now (marks .entry)) (now (values .entry)) (now (message .entry)) (now (message .exit)) r ⌝ }
-{
-    let answer = uplink::recover(l, marks, values, message);
-    match answer {
-        Recovered::Done {
-            length: _,
-            mode: _,
-            cost: _,
-        } => 0,
-        Recovered::Refused(number) => number,
-    }
-}
-
-// The refusal of building, 0 where the frame is written.
-#[no_mangle]
-pub extern "C" fn gloam_bench_build(l: u64, mode: u64, message: &[u8], frame: &mut [u8]) -> u32
-    ensures { λ r. ⌜ HandsBuilt l mode (now (message .entry)) (now (frame .entry)) (now (frame .exit)) r ⌝ }
-{
-    let answer = uplink::build(l, mode, message, frame);
-    match answer {
-        Built::Done(_) => 0,
-        Built::Refused(number) => number,
-    }
 }

@@ -1,0 +1,15 @@
+-- `gateway::gloam_capture_read` meets its contract: it hands on what reading answers. Assumes nothing.
+use borrow.Author.Needs.{needs}
+use Rattle.gateway.specs.Gateway.{readFields}
+use Rattle.gateway.proofs.Gateway.{hands-known}
+use Rattle.gateway.proofs.gloam_capture_read.Statement.{statement}
+use Rattle.gateway.proofs.gloam_capture_read.Tie as tie
+
+returns : tie.Need-returns
+returns c = hands-known readFields (c .before .before .before .before .before .before .before .read-back .ensures) (c .before .answer .given .1)
+
+returns-2 : tie.Need-returns-2
+returns-2 c = hands-known readFields (c .before .before .before .before .before .before .before .read-back .ensures) (c .before .answer2 .given .1)
+
+pub gloam-capture-read-spec : {M : Type 1} → statement M
+gloam-capture-read-spec = tie.close (tie.spec (λ c κs. search needs) (λ c. search needs) (λ c. search needs) (λ c. search needs) (λ c. search needs) returns (λ c. search needs) (λ c. search needs) returns-2)

@@ -1,0 +1,168 @@
+/* gloamstrother.h: the uplink of telegram splitting (ETSI TS 103 357, TS-UNB, ULP rate) for C99 and C++.
+ *
+ * Four calls over the archive libgateway.a: a message to the bits of its bursts (gloam_uplink_build), soft values back to the message behind
+ * the nearest string of all (gloam_uplink_recover), and the stored capture of what was heard, both ways (gloam_capture_write,
+ * gloam_capture_read). Each is proved for every input: it ends, and answers what is said here and nothing else.
+ *
+ * What holds for all four:
+ *   - Buffers are lent for the call only. Nothing is kept, allocated or freed, and no byte outside them is read or written.
+ *   - A buffer is a pointer and its size in bytes; (NULL, 0) is an empty one.
+ *   - Any number and any size may be given: what cannot be taken is refused by its number, the first that holds in the order stated with the
+ *     call. A refusal writes nothing, and the other fields of the answer are 0.
+ *   - refusal 0 means done; then the other fields hold, and what the call writes is written. Bytes beyond are kept.
+ *   - There is no state: calls may be made from any number of threads at once, as long as no buffer that one of them writes is lent to another.
+ *   - Stack: 16 kB are enough for gloam_uplink_build, 32 kB for gloam_uplink_recover, 4 kB for the captures.
+ * What the caller owes, since no call can test it: each buffer is as long as its size says, and one that is written overlaps no other.
+ */
+#ifndef GLOAMSTROTHER_H
+#define GLOAMSTROTHER_H
+
+#include <stddef.h>
+#include <stdint.h>
+
+#ifdef __cplusplus
+extern "C" {
+#endif
+
+/* The least and the greatest length of a message, in bytes. */
+#define GLOAM_LEAST_LENGTH 20
+#define GLOAM_MOST_LENGTH 255
+
+/* Sizes in bytes for a message of `length` bytes, 20 to 255. A frame is sent, and marks and values are heard, as length + 4 sub-packets. */
+#define GLOAM_SUB_PACKETS(length) ((size_t)(length) + 4)
+#define GLOAM_FRAME_SIZE(length) (36 * GLOAM_SUB_PACKETS(length))
+#define GLOAM_MARKS_SIZE(length) GLOAM_SUB_PACKETS(length)
+#define GLOAM_VALUES_SIZE(length) (24 * GLOAM_SUB_PACKETS(length))
+#define GLOAM_CAPTURE_SIZE(length) (119 + 28 * (size_t)(length))
+
+/* Room enough for every length: 255, 9324, 259, 6216 and 7259 bytes. */
+#define GLOAM_MOST_MESSAGE_SIZE ((size_t)GLOAM_MOST_LENGTH)
+#define GLOAM_MOST_FRAME_SIZE GLOAM_FRAME_SIZE(GLOAM_MOST_LENGTH)
+#define GLOAM_MOST_MARKS_SIZE GLOAM_MARKS_SIZE(GLOAM_MOST_LENGTH)
+#define GLOAM_MOST_VALUES_SIZE GLOAM_VALUES_SIZE(GLOAM_MOST_LENGTH)
+#define GLOAM_MOST_CAPTURE_SIZE GLOAM_CAPTURE_SIZE(GLOAM_MOST_LENGTH)
+
+/* The greatest cost that gloam_uplink_recover answers. */
+#define GLOAM_MOST_COST 795648
+
+/* The numbers of the refusals. A number is never used again for another meaning. What to do about each: docs/REFUSALS.md. */
+enum gloam_refusal {
+    GLOAM_DONE = 0,
+    GLOAM_REFUSED_LENGTH = 1,      /* the length is below 20 or above 255 */
+    GLOAM_REFUSED_SIZE = 2,        /* message, marks or values are not of the exact size for the length */
+    GLOAM_REFUSED_ROOM = 3,        /* an output buffer is too short */
+    GLOAM_REFUSED_MODE = 4,        /* the mode is above 3 */
+    GLOAM_REFUSED_MARK = 5,        /* a mark is neither 0 nor 1 */
+    GLOAM_REFUSED_SILENCE = 6,     /* no heard sub-packet has a non-zero value */
+    GLOAM_REFUSED_HEADER_CRC = 7,  /* the header CRC of the nearest string is wrong */
+    GLOAM_REFUSED_PSI = 8,         /* the PSI of the nearest string is not the told length */
+    GLOAM_REFUSED_PAYLOAD_CRC = 9, /* the payload CRC of the nearest string is wrong */
+    GLOAM_REFUSED_CAPTURE = 10     /* the capture is malformed */
+};
+
+/* What writing answers: refusal 0, and size bytes are written; or the refusal, and size is 0. */
+typedef struct {
+    uint32_t refusal;
+    uint32_t size;
+} gloam_written;
+
+/* What reading a capture answers: refusal 0 and the length of the message; or the refusal, and length is 0. */
+typedef struct {
+    uint32_t refusal;
+    uint32_t length;
+} gloam_read;
+
+/* What recovering answers: refusal 0 with the length of the message, its mode and the cost of the nearest string; or the refusal, and the others are 0. */
+typedef struct {
+    uint32_t refusal;
+    uint32_t length;
+    uint32_t mode;
+    uint32_t cost;
+} gloam_recovered;
+
+/* gloam_uplink_build: the frame of one message.
+ *
+ *   length   20 to 255
+ *   mode     0 to 3, the two bits MMode, carried and not judged
+ *   message  in   exactly length bytes
+ *   frame    out  at least GLOAM_FRAME_SIZE(length) = 36 (length + 4) bytes; any further ones are kept
+ *
+ * refusal 0: size = 36 (length + 4) bytes of frame are written, each 0 or 1: sub-packets in order, 36 symbols each, of which
+ * symbols 12 to 23 are the pilot. Else the first refusal that holds, in this order:
+ *   1 length   2 message_size   3 frame_size   4 mode */
+gloam_written gloam_uplink_build(uint64_t length, uint64_t mode,
+                                 const uint8_t *message, size_t message_size,
+                                 uint8_t *frame, size_t frame_size);
+
+/* gloam_uplink_recover: the message of one received frame.
+ *
+ *   length   the told length, 20 to 255
+ *   marks    in   exactly length + 4 bytes, one a sub-packet: 0 lost, 1 heard
+ *   values   in   exactly 24 (length + 4) bytes, 24 a sub-packet, each in two's complement, -128 allowed. Value p stands for symbol p
+ *                 where p < 12, else for symbol p + 12. Negative says 0, positive says 1, its magnitude is its weight; zero says
+ *                 nothing. What stands in a lost sub-packet does not count.
+ *   message  out  at least length bytes; any further ones are kept
+ *
+ * refusal 0: length bytes of message are written; length, mode (0 to 3) and cost (0 to GLOAM_MOST_COST) hold. The message is the one
+ * behind the nearest string: of all strings of payload bits of the told length the one whose coded bits stand against the values by
+ * the least weight, the cost; among equals the one with 0 at the first bit entering the coder where they differ. That string alone
+ * is judged. Else the first refusal that holds, in this order:
+ *   1 length   2 marks_size or values_size   3 message_size   5 mark
+ *   6 silence  7 header CRC                  8 PSI            9 payload CRC */
+gloam_recovered gloam_uplink_recover(uint64_t length,
+                                     const uint8_t *marks, size_t marks_size,
+                                     const uint8_t *values, size_t values_size,
+                                     uint8_t *message, size_t message_size);
+
+/* gloam_capture_write: the stored capture of what was heard of one frame. Its bytes: docs/CAPTURE.md.
+ *
+ *   length   20 to 255
+ *   marks    in   exactly length + 4 bytes, each 0 or 1
+ *   values   in   exactly 24 (length + 4) bytes, kept as they are, those of lost sub-packets too
+ *   capture  out  at least GLOAM_CAPTURE_SIZE(length) = 119 + 28 length bytes; any further ones are kept
+ *
+ * refusal 0: size = 119 + 28 length bytes of capture are written. Else the first refusal that holds, in this order:
+ *   1 length   2 marks_size or values_size   3 capture_size   5 mark */
+gloam_written gloam_capture_write(uint64_t length,
+                                  const uint8_t *marks, size_t marks_size,
+                                  const uint8_t *values, size_t values_size,
+                                  uint8_t *capture, size_t capture_size);
+
+/* gloam_capture_read: the length, marks and values in a stored capture.
+ *
+ *   capture  in   any bytes; a capture has 119 + 28 length of them, and capture_size is just that
+ *   marks    out  at least length + 4 bytes, length as the capture tells it; any further ones are kept
+ *   values   out  at least 24 (length + 4) bytes; any further ones are kept
+ * GLOAM_MOST_MARKS_SIZE and GLOAM_MOST_VALUES_SIZE bytes have room for every capture.
+ *
+ * refusal 0: length holds, length + 4 bytes of marks and 24 (length + 4) bytes of values are written, just what gloam_uplink_recover
+ * takes. Else the first refusal that holds, in this order:
+ *   10 the first field   1 its length   10 all the rest and the end   5 mark   3 marks_size or values_size */
+gloam_read gloam_capture_read(const uint8_t *capture, size_t capture_size,
+                              uint8_t *marks, size_t marks_size,
+                              uint8_t *values, size_t values_size);
+
+/* One short sentence on a refusal's number, for a log; never NULL, and never to be freed. */
+static inline const char *gloam_refusal_text(uint32_t refusal)
+{
+    switch (refusal) {
+    case GLOAM_DONE: return "done";
+    case GLOAM_REFUSED_LENGTH: return "the length is below 20 or above 255";
+    case GLOAM_REFUSED_SIZE: return "message, marks or values are not of the exact size for the length";
+    case GLOAM_REFUSED_ROOM: return "an output buffer is too short";
+    case GLOAM_REFUSED_MODE: return "the mode is above 3";
+    case GLOAM_REFUSED_MARK: return "a mark is neither 0 nor 1";
+    case GLOAM_REFUSED_SILENCE: return "no heard sub-packet has a non-zero value";
+    case GLOAM_REFUSED_HEADER_CRC: return "the header CRC of the nearest string is wrong";
+    case GLOAM_REFUSED_PSI: return "the PSI of the nearest string is not the told length";
+    case GLOAM_REFUSED_PAYLOAD_CRC: return "the payload CRC of the nearest string is wrong";
+    case GLOAM_REFUSED_CAPTURE: return "the capture is malformed";
+    default: return "a number that this header does not know";
+    }
+}
+
+#ifdef __cplusplus
+}
+#endif
+
+#endif
