@@ -24,9 +24,8 @@ use Rattle.uplink.specs.declared.Built.{Built}
 use Rattle.uplink.specs.declared.Built.the-variants as Built-is
 use Rattle.uplink.specs.Frame.{codedPayload}
 use Rattle.uplink.specs.Build.{frameSize, buildRefusal, Builds}
-use Rattle.uplink.specs.Demands.{FirstBuild}
 use Rattle.uplink.specs.Parts.{Put}
-use Rattle.uplink.proofs.Refusals.{build-first}
+use Rattle.uplink.proofs.Taken.{build-taken}
 
 -- a buffer whose first part was lent and came back is as long as before
 pub relent : (whole part : List ℕ) (n : ℕ) → length part ≡ length (take n whole) → length (part ++ drop n whole) ≡ length whole
@@ -80,24 +79,6 @@ module _ (message : List ℕ) (mode : ℕ) (told : Length (length message)) wher
 
       framed : Bursts (length message) (map bit (codedPayload message mode) ++ drop (3 * (length (take (26 + 8 * length message) (part ++ drop (26 + 8 * length message) bits)) + 6)) coded₀) (take (36 * (length message + 4)) after)
       framed = rw (k ∙ ap (λ (x : List Bool). map bit (coded uplinkWords x) ++ drop (3 * (length (take (26 + 8 * length message) (part ++ drop (26 + 8 * length message) bits)) + 6)) coded₀) sent) at (f .frame)
-
--- what is known where nothing is refused
-pub record BuildTaken (l mode size room : ℕ) : Type 0 where
-  pub told : Length l
-  pub sized : size ≡ l
-  pub roomy : frameSize l ≤ room
-  pub modes : mode ≤ 3
-
-build-taken-first : {l mode size room k : ℕ} → FirstBuild l mode size room k → k ≡ 0 → BuildTaken l mode size room
-build-taken-first (FirstBuild.short h) e = absurd (omega arith)
-build-taken-first (FirstBuild.long h) e = absurd (omega arith)
-build-taken-first (FirstBuild.size h d) e = absurd (omega arith)
-build-taken-first (FirstBuild.room h s r) e = absurd (omega arith)
-build-taken-first (FirstBuild.mode h s r m) e = absurd (omega arith)
-build-taken-first (FirstBuild.done h s r m) e = record { told = h; sized = s; roomy = r; modes = m }
-
-pub build-taken : (l mode size room : ℕ) → buildRefusal l mode size room ≡ 0 → BuildTaken l mode size room
-build-taken l mode size room e = build-taken-first (build-first l mode size room) e
 
 module _ {l mode : ℕ} {message before : List ℕ} where
   pub builds-refused : {r : ℕ} → r ≡ buildRefusal l mode (length message) (length before) → (r ≡ 0 → ⊥) → Builds l mode message before before (Built-is.Refused r)

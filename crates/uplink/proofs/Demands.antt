@@ -26,6 +26,7 @@ use Rattle.uplink.specs.Build.{buildRefusal, Builds}
 use Rattle.uplink.specs.Recover.{silent, nearestString, opened, recoverRefusal, Recovers}
 use Rattle.uplink.specs.Demands.{FirstBuild, FirstRecover, Formed, Demand1, Sendable, Returned, Demand2, Behind, Demand3}
 use Rattle.uplink.proofs.Refusals.{build-done, build-first, recover-first}
+use Rattle.uplink.proofs.Taken.{RecoverTaken, recover-taken}
 use Rattle.uplink.proofs.Returned.{refusal-none, message-sent, mode-sent, right-half}
 
 pub demand-1 : Demand1
@@ -36,22 +37,6 @@ demand-1 =
       buildKeeps = λ p d. p .kept (λ e. d (p .refusal ∙ e));
       recoverKeeps = λ {l} {marks} {values} {before} p d. p .message ∙ rw (ne-eqb (recoverRefusal l marks values (length before)) 0 (λ e. d (p .refusal ∙ e)));
     }
-
--- a call whose number is 0 is formed, is heard, and its nearest string passes the checks
-pub record Taken (l : ℕ) (marks values : List ℕ) (room : ℕ) : Type 0 where
-  pub formed : Formed l marks values room
-  pub heard : silent marks values ≡ false
-  pub passes : openRefusal l (opened l marks values) ≡ 0
-
-taken-first : {l : ℕ} {marks values : List ℕ} {room k : ℕ} → FirstRecover l marks values room k → k ≡ 0 → Taken l marks values room
-taken-first (FirstRecover.short h) e = absurd (omega arith)
-taken-first (FirstRecover.long h) e = absurd (omega arith)
-taken-first (FirstRecover.marks h d) e = absurd (omega arith)
-taken-first (FirstRecover.values h d) e = absurd (omega arith)
-taken-first (FirstRecover.room h m v r) e = absurd (omega arith)
-taken-first (FirstRecover.mark h m v r g) e = absurd (omega arith)
-taken-first (FirstRecover.silence f s) e = absurd (omega arith)
-taken-first (FirstRecover.opening f s) e = record { formed = f; heard = s; passes = e }
 
 module _ {l : ℕ} {marks values before after : List ℕ} {answer : Recovered} (p : Recovers l marks values before after answer) (z : recoverRefusal l marks values (length before) ≡ 0) where
   -- what a call that is not refused answers and writes
@@ -78,8 +63,8 @@ module _ {l : ℕ} {marks values before after : List ℕ} {answer : Recovered} (
       near : Nearest (cost uplinkWords (received l marks values)) (payloadBits l) (nearestString l marks values)
       near = nearest-is (cost uplinkWords (received l marks values)) (payloadBits l)
 
-      taken : Taken l marks values (length before)
-      taken = taken-first (recover-first l marks values (length before)) z
+      taken : RecoverTaken l marks values (length before)
+      taken = recover-taken l marks values (length before) z
 
       held : Trip.Composes l (opened l marks values)
       held = Trip.payload-open l (opened l marks values) (length-whitened (nearestString l marks values) ∙ near .sized) (taken .formed .told .low) (taken .passes)
@@ -119,6 +104,3 @@ demand-3 =
       returned = λ {mode} {message} {marks} {values} {before} s f h p.
           returned-of s f (refusal-none message mode marks values (length before) s f h) (message-sent message mode marks values (length before) s f h) (mode-sent message mode marks values (length before) s f h) p;
     }
-
-pub recover-taken : (l : ℕ) (marks values : List ℕ) (room : ℕ) → recoverRefusal l marks values room ≡ 0 → Taken l marks values room
-recover-taken l marks values room z = taken-first (recover-first l marks values room) z

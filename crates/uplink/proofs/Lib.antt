@@ -1,4 +1,5 @@
 pub mod Refusals
+pub mod Taken
 pub mod Silence
 pub mod Sides
 pub mod Returned

@@ -33,11 +33,12 @@ use Rattle.uplink.specs.Build.{frameSize}
 use Rattle.uplink.specs.Recover.{nearestString, nearestCost, recoverRefusal, Recovers}
 use Rattle.uplink.specs.Demands.{NoSecond, SoftValues, Sendable, Returned, Builder, Recoverer, ShutOut}
 use Rattle.uplink.proofs.Building.{length-codedPayload}
-use Rattle.uplink.proofs.Unique.{built-answer-unique, built-buffer-unique, recovered-answer-unique, recovered-buffer-unique, recover-told}
+use Rattle.uplink.proofs.Unique.{built-answer-unique, built-buffer-unique, recovered-answer-unique, recovered-buffer-unique}
 use Rattle.uplink.proofs.Refusals.{recover-first}
 use Rattle.uplink.proofs.Lost.{recovers-alike}
 use Rattle.uplink.proofs.Clean.{cleanMarks, cleanValues, clean-formed, clean-right}
-use Rattle.uplink.proofs.Demands.{demand-2, Taken, recover-taken}
+use Rattle.uplink.proofs.Demands.{demand-2}
+use Rattle.uplink.proofs.Taken.{recover-taken}
 
 pub no-second : NoSecond
 no-second =

@@ -18,16 +18,7 @@ use Rattle.uplink.specs.declared.Recovered.the-variants as Recovered-is
 use Rattle.uplink.specs.Answers.{builtRefusal, builtSize, recoveredRefusal, recoveredLength, recoveredMode, recoveredCost}
 use Rattle.uplink.specs.Build.{frameSize, buildRefusal, Builds}
 use Rattle.uplink.specs.Recover.{recoverRefusal, Recovers}
-use Rattle.uplink.specs.Demands.{FirstBuild, FirstRecover}
-use Rattle.uplink.proofs.Refusals.{build-first, recover-first}
-
-build-told : {l mode size room k : ℕ} → FirstBuild l mode size room k → k ≡ 0 → Length l × (size ≡ l)
-build-told (FirstBuild.short h) e = absurd (omega arith)
-build-told (FirstBuild.long h) e = absurd (omega arith)
-build-told (FirstBuild.size h d) e = absurd (omega arith)
-build-told (FirstBuild.room h s r) e = absurd (omega arith)
-build-told (FirstBuild.mode h s r m) e = absurd (omega arith)
-build-told (FirstBuild.done h s r m) e = (h, s)
+use Rattle.uplink.proofs.Taken.{BuildTaken, build-taken, recover-taken}
 
 -- an answer of building is told by its refusal and its size, where a size goes with refusal 0 alone
 built-same : (a b : Built) → builtRefusal a ≡ builtRefusal b → builtSize a ≡ builtSize b → (builtRefusal a ≡ 0 → 0 < builtSize a) → a ≡ b
@@ -52,8 +43,8 @@ module _ {l mode : ℕ} {message before after after′ : List ℕ} {answer answe
     where
       go : Dec (buildRefusal l mode (length message) (length before) ≡ 0) → after ≡ after′
       go (yes z) =
-          let t : Length l × (length message ≡ l) = build-told (build-first l mode (length message) (length before)) z in
-          let h : Length (length message) = rw (t .1) (t .0) in
+          let t : BuildTaken l mode (length message) (length before) = build-taken l mode (length message) (length before) z in
+          let h : Length (length message) = rw (t .sized) (t .told) in
           sym (take-append-drop (frameSize l) after)
           ∙ ap₂ (λ (x y : List ℕ). x ++ y) (bursts-unique h (p .frame z) (q .frame z)) (p .rest z ∙ sym (q .rest z))
           ∙ take-append-drop (frameSize l) after′
@@ -67,16 +58,6 @@ recovered-same (Recovered-is.Refused x) (Recovered-is.Refused y) r e f g z = ap 
 recovered-same (Recovered-is.Done l m c) (Recovered-is.Refused y) r e f g z = absurd (omega (arith, z refl))
 recovered-same (Recovered-is.Refused x) (Recovered-is.Done l m c) r e f g z = absurd (omega (arith, z r))
 
-pub recover-told : {l : ℕ} {marks values : List ℕ} {room k : ℕ} → FirstRecover l marks values room k → k ≡ 0 → 20 ≤ l
-recover-told (FirstRecover.short h) e = absurd (omega arith)
-recover-told (FirstRecover.long h) e = absurd (omega arith)
-recover-told (FirstRecover.marks h d) e = absurd (omega arith)
-recover-told (FirstRecover.values h d) e = absurd (omega arith)
-recover-told (FirstRecover.room h m v r) e = absurd (omega arith)
-recover-told (FirstRecover.mark h m v r g) e = absurd (omega arith)
-recover-told (FirstRecover.silence f s) e = absurd (omega arith)
-recover-told (FirstRecover.opening f s) e = f .told .low
-
 module _ {l : ℕ} {marks values before after after′ : List ℕ} {answer answer′ : Recovered}
     (p : Recovers l marks values before after answer) (q : Recovers l marks values before after′ answer′) where
   pub recovered-answer-unique : answer ≡ answer′
@@ -88,7 +69,7 @@ module _ {l : ℕ} {marks values before after after′ : List ℕ} {answer answe
           omega (
             arith,
             p .told ∙ ap (λ (t : Bool). cond t l 0) (eq-eqb (recoverRefusal l marks values (length before)) 0 (sym (p .refusal) ∙ z)),
-            recover-told (recover-first l marks values (length before)) (sym (p .refusal) ∙ z),
+            recover-taken l marks values (length before) (sym (p .refusal) ∙ z) .formed .told .low,
           )
 
   pub recovered-buffer-unique : after ≡ after′

@@ -6,7 +6,8 @@ use native.Mathlib.Omega.{arith}
 use borrow.Author.Needs.{needs}
 use lib.ListN.{length}
 use Rattle.uplink.specs.Parts.{Buildable}
-use Rattle.uplink.proofs.Building.{BuildTaken, build-taken, builds-refused, builds-done}
+use Rattle.uplink.proofs.Building.{builds-refused, builds-done}
+use Rattle.uplink.proofs.Taken.{BuildTaken, build-taken}
 use Rattle.uplink.proofs.build.Statement.{statement}
 use Rattle.uplink.proofs.build.Tie as tie
 
