@@ -2,7 +2,7 @@
 use mathlib.Core.Path.{_≡_, sym, ap, _∙_}
 use Rattle.uplink.proofs.ShutOut as uplink
 use Rattle.capture.proofs.Promises as capture
-use Rattle.gateway.specs.Gateway.{Hands, builtFields, recoveredFields, writtenFields, readFields, NoSecond}
+use Rattle.gateway.specs.Gateway.{Hands, NoSecond}
 
 -- an answer that meets the contract and is known to be b is handed on as the fields of b
 pub hands-known : {Answer Fields : Type 0} {Meets : Answer → Type 0} {a b : Answer} (fields : Answer → Fields) → Meets a → a ≡ b → Hands Meets fields (fields b)

@@ -1,20 +1,14 @@
 -- What the inner functions of the line say to each other. Nothing here has to be believed.
 -- Assumes nothing.
 use mathlib.Core.Bool.{cond}
-use mathlib.Core.List.{List, _++_}
+use mathlib.Core.List.{List}
 use mathlib.Core.Path.{_≡_}
-use Prim.Native.Nat.{ℕ, _+_, _≤_}
+use Prim.Native.Nat.{ℕ, _≤_}
 use lib.Dec.{eqb}
 use lib.ListN.{length, take}
 use Rattle.uplink.specs.Recover.{nearestCost, opened, recoverRefusal}
 use Rattle.payload.specs.Open.{messageOf, modeOf}
 use Rattle.line.specs.Line.{okLine, refusedLine}
-
--- bytes stand from index at on, what was before them is kept, and next is the index behind them
-pub record Appends (old : List ℕ) (at : ℕ) (bytes new : List ℕ) (next : ℕ) : Type 0 where
-  pub sized : length new ≡ length old
-  pub nextIs : next ≡ at + length bytes
-  pub front : take next new ≡ take at old ++ bytes
 
 -- a line stands at the start of a buffer; r is its length
 pub record Lines (bytes new : List ℕ) (r : ℕ) : Type 0 where

@@ -5,9 +5,10 @@ ghost use mathlib.Core.List.{[], _∷_, _++_};
 ghost use mathlib.Core.Path.{_≡_};
 ghost use Prim.Native.Nat.{_+_, _*_, _/_, _%_, _≤_, _<_};
 ghost use lib.ListN.{length, take};
+ghost use Rattle.buffers.specs.Buffers.{Appends};
 ghost use Rattle.line.specs.Line.{decimal, hexDigit, hex, okLine, refusedLine};
 ghost use Rattle.line.specs.Report.{Reports};
-ghost use Rattle.line.specs.Parts.{Appends, Lines, Roomy, Read as Parts·Read, recoveredLine};
+ghost use Rattle.line.specs.Parts.{Lines, Roomy, Read as Parts·Read, recoveredLine};
 
 // Puts one byte at `at`, and answers the index behind it.
 fn put_byte(x: u8, out: &mut [u8], at: usize) -> usize
@@ -18,14 +19,6 @@ fn put_byte(x: u8, out: &mut [u8], at: usize) -> usize
     at + 1
 }
 
-// Puts bytes from `at` on, and answers the index behind them.
-fn put_bytes(bytes: &[u8], out: &mut [u8], at: usize) -> usize
-    requires { ⌜ at + length (now bytes) ≤ length (now out) ⌝ }
-    ensures { λ r. ⌜ Appends (now (out .entry)) at (now (bytes .entry)) (now (out .exit)) r ⌝ }
-{
-    buffers::copy_in(bytes, out, at)
-}
-
 // Puts a number in decimal, ten digits at most, from `at` on, and answers the index behind it.
 fn put_decimal(n: u32, out: &mut [u8], at: usize) -> usize
     requires { ⌜ at + 10 ≤ length (now out) ⌝ }
@@ -33,7 +26,7 @@ fn put_decimal(n: u32, out: &mut [u8], at: usize) -> usize
 {
     let mut digits = [0u8; 20];
     let count = io::decimal(n as u64, &mut digits);
-    put_bytes(&digits[..count], out, at)
+    buffers::copy_in(&digits[..count], out, at)
 }
 
 // The lower-case hex digit of a number below 16.
@@ -92,7 +85,7 @@ fn put_ok(l: u32, mode: u32, cost: u32, message: &[u8], out: &mut [u8]) -> usize
     ensures { λ r. ⌜ Lines (okLine l mode cost (now (message .entry))) (now (out .exit)) r ⌝ }
 {
     let head = [79u8, 75, 32];
-    let after_head = put_bytes(&head, out, 0);
+    let after_head = buffers::copy_in(&head, out, 0);
     let after_length = put_decimal(l, out, after_head);
     let after_mode = put_number(mode, out, after_length);
     let after_cost = put_number(cost, out, after_mode);
@@ -105,7 +98,7 @@ fn put_refused(number: u32, out: &mut [u8]) -> usize
     ensures { λ r. ⌜ Lines (refusedLine number) (now (out .exit)) r ⌝ }
 {
     let head = [82u8, 69, 70, 85, 83, 69, 68, 32];
-    let after_head = put_bytes(&head, out, 0);
+    let after_head = buffers::copy_in(&head, out, 0);
     let after_number = put_decimal(number, out, after_head);
     put_byte(10, out, after_number)
 }

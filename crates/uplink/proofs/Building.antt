@@ -1,13 +1,12 @@
 -- The steps of building, one after the other, make the frame of the message; what build answers.
 -- Assumes nothing.
-use mathlib.Core.Bool.{Bool, true, false, cond}
+use mathlib.Core.Bool.{Bool, cond}
 use mathlib.Core.List.{List, _++_, map}
 use mathlib.Core.Path.{_≡_, refl, sym, ap, _∙_}
-use Prim.Native.Nat.{ℕ, _+_, _*_, _≤_, _<_}
+use Prim.Native.Nat.{ℕ, _+_, _*_}
 use native.Mathlib.Omega.{arith}
 use borrow.Author.Tests.{eq-eqb, ne-eqb}
-use lib.Dec.{eqb}
-use lib.ListN.{length, getD, take, drop, length-map, List·getD-append}
+use lib.ListN.{length, take, drop, length-map, List·getD-append}
 use lib.Seq.{take-at, length-front}
 use Rattle.bits.specs.Bits.{bit, isOne}
 use Rattle.bits.proofs.Bits.{map-isOne-map-bit}
@@ -20,7 +19,6 @@ use Rattle.interleave.specs.Bursts.{Bursts}
 use Rattle.payload.specs.Payload.{payload, payloadBits}
 use Rattle.payload.proofs.Payload.{length-payload}
 use Rattle.placing.specs.Placing.{Framed}
-use Rattle.uplink.specs.declared.Built.{Built}
 use Rattle.uplink.specs.declared.Built.the-variants as Built-is
 use Rattle.uplink.specs.Frame.{codedPayload}
 use Rattle.uplink.specs.Build.{frameSize, buildRefusal, Builds}

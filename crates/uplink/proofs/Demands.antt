@@ -1,12 +1,10 @@
 -- The customer's demands hold of whatever meets the contracts of build and recover.
 -- Assumes nothing.
-use mathlib.Core.Bool.{Bool, true, false, cond}
 use mathlib.Core.List.{List, _++_}
 use mathlib.Core.Path.{_≡_, refl, sym, ap, subst, _∙_}
-use Prim.Native.Nat.{ℕ, _+_, _*_, _≤_, _<_}
+use Prim.Native.Nat.{ℕ, _+_}
 use native.Mathlib.Omega.{arith}
 use borrow.Author.Tests.{eq-eqb, ne-eqb}
-use lib.Dec.{eqb}
 use lib.ListN.{length, take, drop}
 use lib.Seq.{take-at}
 use Rattle.coder.specs.Coder.{uplinkWords}
@@ -16,14 +14,12 @@ use Rattle.coder.proofs.Nearest.{nearest-is}
 use Rattle.whiten.specs.Whiten.{whitened}
 use Rattle.whiten.proofs.Whiten.{length-whitened, whitened-whitened}
 use Rattle.interleave.specs.Bursts.{received}
-use Rattle.payload.specs.Payload.{payload, payloadBits}
-use Rattle.payload.specs.Open.{openRefusal, messageOf, modeOf}
+use Rattle.payload.specs.Payload.{payloadBits}
+use Rattle.payload.specs.Open.{messageOf, modeOf}
 use Rattle.payload.proofs.RoundTrip as Trip
-use Rattle.uplink.specs.declared.Built.{Built}
 use Rattle.uplink.specs.declared.Recovered.{Recovered}
-use Rattle.uplink.specs.Answers.{builtRefusal, recoveredRefusal, recoveredMode, recoveredCost}
-use Rattle.uplink.specs.Build.{buildRefusal, Builds}
-use Rattle.uplink.specs.Recover.{silent, nearestString, opened, recoverRefusal, Recovers}
+use Rattle.uplink.specs.Answers.{recoveredMode, recoveredCost}
+use Rattle.uplink.specs.Recover.{nearestString, opened, recoverRefusal, Recovers}
 use Rattle.uplink.specs.Demands.{FirstBuild, FirstRecover, Formed, Demand1, Sendable, Returned, Demand2, Behind, Demand3}
 use Rattle.uplink.proofs.Refusals.{build-done, build-first, recover-first}
 use Rattle.uplink.proofs.Taken.{RecoverTaken, recover-taken}

@@ -1,18 +1,17 @@
 -- Document 01's promises besides the demands: no second answer, what soft values are worth, and that the programs it names do not meet the contracts.
 -- Assumes nothing.
 use mathlib.Core.Bool.{Bool, true, false, cond}
-use mathlib.Core.List.{List, [], _∷_, _++_, map}
+use mathlib.Core.List.{List, map}
 use mathlib.Core.Path.{_≡_, refl, sym, ap, subst, _∙_}
-use Prim.Native.Nat.{ℕ, zero, suc, _+_, _*_, _≤_, _<_}
+use Prim.Native.Nat.{ℕ, _≤_, _<_}
 use native.Mathlib.Decide.{ℕ-discrete}
 use native.Mathlib.Omega.{arith}
 use borrow.Author.Tests.{eq-eqb, ne-eqb}
-use lib.Dec.{eqb}
-use lib.ListN.{length, getD, take, drop, replicate, length-replicate, getD-replicate, length-map, List·getD-map}
-use lib.Seq.{ext-getD, take-at, take-all}
+use lib.ListN.{length, getD, take, replicate, length-replicate, getD-replicate, length-map}
+use lib.Seq.{ext-getD}
 use Rattle.bits.specs.Bits.{bit, isOne}
 use Rattle.bits.proofs.Bits.{map-isOne-map-bit}
-use Rattle.coder.specs.Coder.{coded, uplinkWords}
+use Rattle.coder.specs.Coder.{uplinkWords}
 use Rattle.coder.specs.Cost.{weight, against, cost}
 use Rattle.coder.proofs.Coded.{coded-injective, uplinkWords-tell}
 use Rattle.coder.proofs.Cost.{cost-le}
@@ -27,14 +26,12 @@ use Rattle.payload.specs.Open.{modeOf}
 use Rattle.payload.proofs.Payload.{length-payload}
 use Rattle.payload.proofs.RoundTrip as Trip
 use Rattle.uplink.specs.declared.Recovered.{Recovered}
-use Rattle.uplink.specs.Answers.{builtRefusal, recoveredRefusal, recoveredCost}
+use Rattle.uplink.specs.Answers.{builtRefusal, recoveredCost}
 use Rattle.uplink.specs.Frame.{codedPayload, Frame}
-use Rattle.uplink.specs.Build.{frameSize}
 use Rattle.uplink.specs.Recover.{nearestString, nearestCost, recoverRefusal, Recovers}
 use Rattle.uplink.specs.Demands.{NoSecond, SoftValues, Sendable, Returned, Builder, Recoverer, ShutOut}
 use Rattle.uplink.proofs.Building.{length-codedPayload}
 use Rattle.uplink.proofs.Unique.{built-answer-unique, built-buffer-unique, recovered-answer-unique, recovered-buffer-unique}
-use Rattle.uplink.proofs.Refusals.{recover-first}
 use Rattle.uplink.proofs.Lost.{recovers-alike}
 use Rattle.uplink.proofs.Clean.{cleanMarks, cleanValues, clean-formed, clean-right}
 use Rattle.uplink.proofs.Demands.{demand-2}

@@ -1,14 +1,13 @@
 -- No second answer and no second state of the buffer meets the contract of build or of recover.
 -- Assumes nothing.
-use mathlib.Core.Bool.{Bool, true, false, cond}
+use mathlib.Core.Bool.{Bool, cond}
 use mathlib.Core.List.{List, _++_}
 use mathlib.Core.Path.{_≡_, refl, sym, ap, ap₂, _∙_}
-use Prim.Native.Nat.{ℕ, _+_, _*_, _≤_, _<_}
+use Prim.Native.Nat.{ℕ, _+_, _<_}
 use native.Mathlib.Decide.{ℕ-discrete}
 use native.Mathlib.Omega.{arith}
-use borrow.Author.Tests.{eq-eqb, ne-eqb}
-use lib.Dec.{eqb}
-use lib.ListN.{length, take, drop, take-append-drop}
+use borrow.Author.Tests.{eq-eqb}
+use lib.ListN.{length, take-append-drop}
 use Rattle.interleave.specs.Interleave.{Length}
 use Rattle.interleave.proofs.Bursts.{bursts-unique}
 use Rattle.uplink.specs.declared.Built.{Built}

@@ -7,15 +7,15 @@ use Rattle.line.proofs.Decimal.{taken-decimal, length-decimal}
 use Rattle.line.proofs.put_decimal.Statement.{statement}
 use Rattle.line.proofs.put_decimal.Tie as tie
 
-put-bytes-requires : tie.Need-put-bytes-requires
-put-bytes-requires c κs =
+copy-in-requires : tie.Need-copy-in-requires
+copy-in-requires c κs =
     let d = c .before .before .decimal .ensures in
     omega (arith, ap length (taken-decimal _ _ _ (omega arith) (d .1 .0) (d .1 .1)), length-decimal (c .before .before .before .before .before .args .n) (omega arith), c .before .before .before .before .before .pre)
 
 returns : tie.Need-returns
 returns c =
     let d = c .before .before .before .before .before .decimal .ensures in
-    rw (taken-decimal _ _ _ (omega arith) (d .1 .0) (d .1 .1)) at (c .before .before .put-bytes .ensures)
+    rw (taken-decimal _ _ _ (omega arith) (d .1 .0) (d .1 .1)) at (c .before .before .copy-in .ensures)
 
 pub put-decimal-spec : {M : Type 1} → statement M
 put-decimal-spec =
@@ -24,6 +24,6 @@ put-decimal-spec =
     (λ c κs. search needs)
     (λ c. search needs)
     (λ c. search needs)
-    put-bytes-requires
+    copy-in-requires
     (λ c. search needs)
     returns)

@@ -2,6 +2,7 @@
 use Prim.Native.Nat.{_-_}
 use native.Mathlib.Omega.{arith}
 use lib.ListN.{length}
+use Rattle.buffers.proofs.Appending.{appends-length}
 use Rattle.line.proofs.Appending.{Hexing, hexing-start, hexing-step, hexing-end}
 use Rattle.line.proofs.put_hex.Statement.{statement}
 use Rattle.line.proofs.put_hex.Tie as tie
@@ -18,14 +19,14 @@ loop-holds c = hexing-start _ _ _
 put-hex-byte-requires : tie.Need-put-hex-byte-requires Inv-loop μ-loop
 put-hex-byte-requires c κs =
     let l = c .before .before .before .loop in
-    omega (arith, l .inv .nextIs, l .inv .put .sized)
+    omega (arith, l .inv .nextIs, appends-length (l .inv .put))
 
 loop-again : tie.Need-loop-again Inv-loop μ-loop
 loop-again c =
     hexing-step (c .before .before .before .before .before .before .loop .inv) (omega arith) (c .before .before .put-hex-byte .ensures)
 
 same-length : tie.Need-same-length Inv-loop μ-loop
-same-length c = c .before .loop .inv .put .sized
+same-length c = appends-length (c .before .loop .inv .put)
 
 returns : tie.Need-returns Inv-loop μ-loop
 returns c = hexing-end (c .before .loop .inv) (omega arith)

@@ -1,6 +1,7 @@
 -- `line::put_hex_byte` meets its contract. Assumes nothing.
 use native.Mathlib.Omega.{arith}
 use borrow.Author.Needs.{needs}
+use Rattle.buffers.proofs.Appending.{appends-length}
 use Rattle.line.proofs.Appending.{hex-pair}
 use Rattle.line.proofs.put_hex_byte.Statement.{statement}
 use Rattle.line.proofs.put_hex_byte.Tie as tie
@@ -8,7 +9,7 @@ use Rattle.line.proofs.put_hex_byte.Tie as tie
 put-byte-requires-2 : tie.Need-put-byte-requires-2
 put-byte-requires-2 c κs =
     let p = c .before .before .before .before .put-byte .ensures in
-    omega (arith, p .nextIs, p .sized)
+    omega (arith, p .ends, appends-length p)
 
 returns : tie.Need-returns
 returns c =

@@ -1,6 +1,6 @@
 -- `line::put_number` meets its contract. Assumes nothing.
 use borrow.Author.Needs.{needs}
-use Rattle.line.proofs.Appending.{appends-then}
+use Rattle.buffers.proofs.Appending.{appends-then}
 use Rattle.line.proofs.put_number.Statement.{statement}
 use Rattle.line.proofs.put_number.Tie as tie
 
