@@ -1,6 +1,6 @@
 -- A bit, the byte that carries it in a buffer, and the bits of a number in a field of given width, most significant first.
 -- To be believed: bit, isOne, bitsOf, bitsOfBytes, numberOf. Assumes nothing.
-use mathlib.Core.Bool.{Bool, cond, xor}
+use mathlib.Core.Bool.{Bool, cond}
 use mathlib.Core.List.{List, [], _∷_, _++_}
 use Prim.Native.Nat.{ℕ, zero, suc, _+_, _*_, _/_, _%_, _^_}
 use lib.Dec.{eqb}

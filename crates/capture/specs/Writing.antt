@@ -1,6 +1,6 @@
 -- Writing a capture, document 01: the refusals 1, 2, 3, 5 in this order, and the size.
 -- To be believed: writeRefusal, Writes. Assumes nothing.
-use mathlib.Core.Bool.{Bool, cond, _&&_}
+use mathlib.Core.Bool.{cond, _&&_}
 use mathlib.Core.List.{List, _++_}
 use mathlib.Core.Path.{_≡_}
 use Prim.Native.Nat.{ℕ, _+_, _*_}

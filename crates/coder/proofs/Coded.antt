@@ -3,12 +3,12 @@
 use mathlib.Core.Bool.{Bool, true, false, _&&_, xor, true≢false, false≢true}
 use mathlib.Core.List.{List, [], _∷_, _++_}
 use mathlib.Core.Path.{_≡_, refl, sym, ap, _∙_}
-use Prim.Native.Nat.{ℕ, zero, suc, _+_, _*_}
+use Prim.Native.Nat.{_+_, _*_}
 use native.Mathlib.Omega.{arith}
 use lib.ListN.{length, length-append, drop, take, getD}
 use lib.Seq.{take-at}
 use Rattle.bits.specs.Bits.{bitsOf}
-use Rattle.coder.specs.Coder.{tap, Words, outputs, codedAfter, tail, coded, uplinkWords, Tells}
+use Rattle.coder.specs.Coder.{tap, Words, codedAfter, tail, coded, uplinkWords, Tells}
 
 -- what follows is the same, so what comes before is
 append-cancel : (xs ys zs : List Bool) → length xs ≡ length ys → xs ++ zs ≡ ys ++ zs → xs ≡ ys

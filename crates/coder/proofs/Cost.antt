@@ -2,12 +2,11 @@
 -- Assumes nothing.
 use mathlib.Core.Bool.{Bool, true, false, cond, xor, Bool-discrete}
 use mathlib.Core.List.{List, [], _∷_, List-discrete}
-use mathlib.Core.Path.{_≡_, refl, sym, ap, subst}
-use Prim.Native.Nat.{ℕ, zero, suc, _+_, _-_, _*_, _≤_, _<_}
+use mathlib.Core.Path.{_≡_, refl, sym, subst}
+use Prim.Native.Nat.{ℕ, _+_, _-_, _*_, _≤_, _<_}
 use native.Mathlib.Nat.{le-refl}
 use native.Mathlib.Omega.{arith}
 use borrow.Author.Tests.{leb-true, leb-false}
-use lib.Dec.{leb}
 use lib.ListN.{length}
 use Rattle.coder.specs.Coder.{Words, coded}
 use Rattle.coder.specs.Cost.{negative, weight, against, distance, cost, apart}

@@ -1,13 +1,13 @@
 -- The number of the last six bits gives the same outputs as all the bits taken, for words of at most seven bits, and moves as they do.
 -- Assumes nothing.
-use mathlib.Core.Bool.{Bool, true, false, cond, _&&_, xor}
+use mathlib.Core.Bool.{Bool, true, false, _&&_, xor}
 use mathlib.Core.List.{List, [], _∷_, _++_}
 use mathlib.Core.Path.{_≡_, refl, sym, ap, _∙_}
 use Prim.Native.Nat.{ℕ, zero, suc, _+_, _/_, _%_, _<_, _≤_}
 use native.Mathlib.Omega.{arith}
 use lib.ListN.{length, take, replicate}
 use lib.Seq.{take-take}
-use Rattle.bits.specs.Bits.{bitsOf, isOne}
+use Rattle.bits.specs.Bits.{bitsOf}
 use Rattle.coder.specs.Coder.{tap, Words, outputs, uplinkWords}
 use Rattle.coder.specs.Register.{Holds, shifted, Short}
 

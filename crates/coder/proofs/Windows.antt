@@ -1,11 +1,9 @@
 -- The sums by which code makes the three output bits of a step from the newest seven bits as a number are what 001's words select: one test over the 128 numbers.
 -- Assumes nothing.
-use mathlib.Core.Bool.{Bool, true, false, false≢true, _&&_, xor}
+use mathlib.Core.Bool.{Bool, true, _&&_, xor}
 use mathlib.Core.List.{List, [], _∷_, map}
-use mathlib.Core.Logic.{⊎-elim}
 use mathlib.Core.Path.{_≡_, refl, ap, _∙_}
-use Prim.Native.Nat.{ℕ, zero, suc, _+_, _/_, _%_, _<_}
-use native.Mathlib.Nat.{not-suc-le-zero, eq-or-lt-of-le, le-of-suc-le-suc}
+use Prim.Native.Nat.{ℕ, suc, _+_, _/_, _%_, _<_}
 use native.Mathlib.Omega.{arith}
 use borrow.Author.Tests.{eqb-true}
 use lib.Dec.{eqb}

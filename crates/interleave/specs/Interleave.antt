@@ -1,6 +1,6 @@
 -- Interleaving of the UL-ULP uplink, TS 103 357 clauses 6.4.2.1.1 and 6.4.4.6: which radio-burst and which symbol of it carries a coded bit, and what the other symbols are.
 -- To be believed: codedBits, extension, subPackets, shiftedIndex, groupLength, group, groupIndex, subPacket, countIn, order, symbol, packetOf, symbolOf, Placed, pilot, Length, DataSymbol; and, at the end, what the functions ask and give. Assumes nothing.
-use mathlib.Core.Bool.{Bool, cond}
+use mathlib.Core.Bool.{cond}
 use mathlib.Core.List.{List, [], _∷_}
 use mathlib.Core.Path.{_≡_}
 use Prim.Native.Nat.{ℕ, zero, suc, _+_, _-_, _*_, _/_, _%_, _≤_, _<_}

@@ -1,6 +1,6 @@
 -- The theorem of the reference points: document 01's cases a to n hold of the definitions. Cases k, l and m hold whichever 1s are reversed, by counting.
 -- Assumes nothing.
-use mathlib.Core.Bool.{Bool, true, false, cond, xor}
+use mathlib.Core.Bool.{Bool, false, cond, xor}
 use mathlib.Core.List.{List, [], _∷_}
 use mathlib.Core.Path.{_≡_, refl, ap, _∙_}
 use Prim.Native.Nat.{ℕ, _+_}
@@ -13,7 +13,7 @@ use Rattle.coder.specs.Coder.{tap, codedAfter, coded}
 use Rattle.coder.specs.Cost.{weight, against, distance, cost}
 use Rattle.coder.specs.Nearest.{nearest}
 use Rattle.interleave.specs.Interleave.{group, groupIndex, subPacket, countIn, order, evenRow, oddRow, symbol}
-use Rattle.reference.specs.Cases.{exampleWords, zeroString, oneString, codedOne, Carried, Heard, none, minus, plus, zeroed, reversed, Answers, Cases}
+use Rattle.reference.specs.Cases.{exampleWords, zeroString, oneString, codedOne, Heard, none, minus, plus, zeroed, reversed, Answers, Cases}
 
 -- how many bits are 1
 ones : List Bool → ℕ

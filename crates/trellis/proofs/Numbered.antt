@@ -1,20 +1,18 @@
 -- The machine on 64 numbers follows the coder, for any words of at most seven bits: its walk is the nearest string and its remaining cost that string's cost.
 -- Assumes nothing.
-use mathlib.Core.Bool.{Bool, true, false}
+use mathlib.Core.Bool.{Bool, false}
 use mathlib.Core.List.{List, [], _∷_, _++_}
 use mathlib.Core.Path.{_≡_, refl, sym, ap, subst, fun-ext, _∙_}
-use Prim.Native.Nat.{ℕ, zero, suc, _+_, _≤_, _<_}
+use Prim.Native.Nat.{ℕ, zero, suc, _+_}
 use native.Mathlib.Omega.{arith}
 use lib.ListN.{length, drop, replicate}
-use lib.Seq.{drop-nil}
-use Rattle.bits.specs.Bits.{bitsOf}
 use Rattle.coder.specs.Coder.{Words, outputs, codedAfter, tail, coded}
 use Rattle.coder.specs.Cost.{distance, cost}
 use Rattle.coder.specs.Nearest.{Nearest, nearest}
-use Rattle.coder.specs.Register.{Holds, shifted, Short}
+use Rattle.coder.specs.Register.{Holds, Short}
 use Rattle.coder.proofs.Nearest.{nearest-eq}
 use Rattle.coder.proofs.Register.{holds-start, holds-shifted, outputs-held}
-use Rattle.trellis.specs.Machine.{Machine, spent, rem, walk}
+use Rattle.trellis.specs.Machine.{spent, rem, walk}
 use Rattle.trellis.specs.Numbered.{Taken, history, At, price, open64, numbered}
 use Rattle.trellis.proofs.Machine.{walk-nearest, spent-walk, Follows, rem-follows, walk-follows}
 use Rattle.trellis.proofs.Tail.{slide, rem-six}

@@ -2,8 +2,8 @@
 -- Assumes nothing.
 use mathlib.Core.Bool.{Bool, true, false}
 use mathlib.Core.List.{List}
-use mathlib.Core.Path.{_≡_, refl, sym, ap, subst, _∙_}
-use Prim.Native.Nat.{ℕ, zero, suc, _+_, _-_, _*_, _/_, _^_, _≤_, _<_, min}
+use mathlib.Core.Path.{_≡_, refl, sym, ap, _∙_}
+use Prim.Native.Nat.{ℕ, zero, suc, _+_, _-_, _*_, _/_, _^_, _≤_, _<_}
 use native.Mathlib.Nat.{pow-suc, div-one, div-div-eq-div-mul, add-mul-div-right, mul-comm, mul-assoc}
 use native.Mathlib.Decide.{decLe}
 use native.Mathlib.Omega.{arith}
@@ -12,9 +12,9 @@ use lib.Pow.{pow-pos}
 use Rattle.coder.specs.Coder.{Words}
 use Rattle.coder.specs.Register.{shifted}
 use Rattle.coder.proofs.Register.{shifted-below}
-use Rattle.trellis.specs.Machine.{Machine, rem}
-use Rattle.trellis.specs.Numbered.{At, price, open64, numbered}
-use Rattle.trellis.proofs.Tail.{price-le, slide, slide-le, rem-six, rem-open-le, rem-open-zero-le, rem-open-later}
+use Rattle.trellis.specs.Machine.{rem}
+use Rattle.trellis.specs.Numbered.{At, open64, numbered}
+use Rattle.trellis.proofs.Tail.{price-le, slide, rem-six, rem-open-le, rem-open-zero-le, rem-open-later}
 
 -- two numbers that i moves make the same; q is how often 2 ^ i goes into 64
 pub record Meet (i s t : ℕ) : Type 0 where

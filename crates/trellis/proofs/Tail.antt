@@ -1,9 +1,9 @@
 -- What a step costs at most, and that the six last steps take 0: a state other than 0 at the end is never worth what they could save.
 -- Assumes nothing.
 use mathlib.Core.Bool.{Bool, true, false, cond}
-use mathlib.Core.List.{List, [], _∷_}
-use mathlib.Core.Path.{_≡_, refl, sym, ap, _∙_}
-use Prim.Native.Nat.{ℕ, zero, suc, _+_, _*_, _/_, _^_, _≤_, _<_, min}
+use mathlib.Core.List.{List, _∷_}
+use mathlib.Core.Path.{_≡_, refl}
+use Prim.Native.Nat.{ℕ, zero, suc, _+_, _*_, _^_, _≤_, _<_}
 use native.Mathlib.Nat.{pow-suc, suc-add}
 use native.Mathlib.Omega.{arith}
 use borrow.Author.Tests.{eq-eqb, ne-eqb}
@@ -12,8 +12,8 @@ use lib.Pow.{pow-mono, pow-pos}
 use Rattle.bits.specs.Bits.{bitsOf}
 use Rattle.coder.specs.Coder.{Words, outputs}
 use Rattle.coder.proofs.Cost.{distance-le}
-use Rattle.trellis.specs.Machine.{Machine, rem, takes}
-use Rattle.trellis.specs.Numbered.{At, price, astray, open64, numbered}
+use Rattle.trellis.specs.Machine.{rem, takes}
+use Rattle.trellis.specs.Numbered.{At, price, open64, numbered}
 
 module _ (w : Words) where
   -- a step costs at most three times 128

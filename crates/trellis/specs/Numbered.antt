@@ -1,8 +1,8 @@
 -- The coder as a machine, twice: with all the bits taken as its state, as the definitions have it, and with the number of the last six. The values still to come are part of the state.
 -- Nothing here has to be believed. Assumes nothing.
-use mathlib.Core.Bool.{Bool, false, cond}
-use mathlib.Core.List.{List, [], _∷_}
-use Prim.Native.Nat.{ℕ, zero, suc, _+_}
+use mathlib.Core.Bool.{Bool, cond}
+use mathlib.Core.List.{List, _∷_}
+use Prim.Native.Nat.{ℕ}
 use lib.Dec.{eqb}
 use lib.ListN.{drop}
 use Rattle.bits.specs.Bits.{bitsOf}

@@ -1,14 +1,14 @@
 -- Every message that can be sent has a frame that is heard on the right side everywhere: marks of 1, and at each data symbol +1 or -1 by the coded bit that it carries.
 -- Assumes nothing.
 use mathlib.Core.Bool.{Bool, true, false, cond}
-use mathlib.Core.List.{List, [], _∷_}
+use mathlib.Core.List.{List}
 use mathlib.Core.Path.{_≡_, refl, sym, ap, subst, _∙_}
 use Prim.Native.Nat.{ℕ, zero, suc, _+_, _-_, _*_, _/_, _%_, _≤_, _<_}
 use native.Mathlib.Decide.{decLt}
 use native.Mathlib.Omega.{arith}
 use borrow.Author.Tests.{lt-ltb, le-ltb}
-use lib.Dec.{ltb, eqb}
-use lib.ListN.{length, getD, replicate, length-replicate, getD-replicate}
+use lib.Dec.{ltb}
+use lib.ListN.{getD, replicate, length-replicate, getD-replicate}
 use Rattle.interleave.specs.Interleave.{codedBits, subPackets, packetOf, symbolOf, Placed, Length, DataSymbol}
 use Rattle.lists.specs.Lists.{firsts}
 use Rattle.lists.proofs.Lists.{length-firsts, getD-firsts}

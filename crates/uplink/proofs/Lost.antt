@@ -2,21 +2,19 @@
 -- Assumes nothing.
 use mathlib.Core.Bool.{Bool, true, false, cond, not, _&&_, _||_}
 use mathlib.Core.List.{List, [], _∷_, _++_}
-use mathlib.Core.Path.{_≡_, refl, sym, ap, ap₂, subst, _∙_}
-use Prim.Native.Nat.{ℕ, zero, suc, _+_, _-_, _*_, _≤_, _<_, min}
-use native.Mathlib.Nat.{le-refl, le-trans}
+use mathlib.Core.Path.{_≡_, refl, sym, ap, ap₂, _∙_}
+use Prim.Native.Nat.{ℕ, zero, suc, _+_, _-_, _*_, _<_, min}
 use native.Mathlib.Decide.{decLt}
 use native.Mathlib.Omega.{arith}
 use borrow.Author.Tests.{eqb-true}
-use lib.Dec.{eqb, ltb}
+use lib.Dec.{eqb}
 use lib.ListN.{length, getD, take, drop, length-take, length-drop}
 use lib.Seq.{ext-getD, getD-take, getD-drop}
 use Rattle.interleave.specs.Interleave.{codedBits, packetOf, symbolOf, Length}
 use Rattle.lists.specs.Lists.{firsts}
 use Rattle.interleave.specs.Bursts.{valueOf, heard, received}
 use Rattle.interleave.proofs.Placed.{placed-here, placed-data}
-use Rattle.uplink.specs.Recover.{zeros, silent, marksGood}
-use Rattle.uplink.specs.Build.{lengthWrong}
+use Rattle.uplink.specs.Recover.{zeros, silent}
 use Rattle.uplink.specs.Recover.{opened, nearestCost, recoverRefusal, Recovers}
 use Rattle.uplink.specs.Demands.{Alike}
 use Rattle.uplink.specs.declared.Recovered.{Recovered}
@@ -27,7 +25,7 @@ use Rattle.coder.specs.Cost.{cost}
 use Rattle.coder.specs.Nearest.{nearest}
 use Rattle.whiten.specs.Whiten.{whitened}
 use Rattle.payload.specs.Payload.{payloadBits}
-use Rattle.payload.specs.Open.{openRefusal, messageOf, modeOf}
+use Rattle.payload.specs.Open.{messageOf, modeOf}
 
 firsts-same : (n : ℕ) (f g : ℕ → ℕ) → ((j : ℕ) → j < n → f j ≡ g j) → firsts n f ≡ firsts n g
 unfolding firsts

@@ -1,9 +1,9 @@
 -- The steps of recovering, one after the other, reach the payload behind the nearest string; what recover answers.
 -- Assumes nothing.
-use mathlib.Core.Bool.{Bool, true, false, cond}
+use mathlib.Core.Bool.{Bool, true, false}
 use mathlib.Core.List.{List, _++_, map}
-use mathlib.Core.Path.{_≡_, refl, sym, ap, subst, _∙_}
-use Prim.Native.Nat.{ℕ, _+_, _*_, _≤_, _<_}
+use mathlib.Core.Path.{_≡_, sym, ap, subst, _∙_}
+use Prim.Native.Nat.{ℕ, _+_, _*_, _<_}
 use native.Mathlib.Omega.{arith}
 use borrow.Author.Tests.{eq-eqb, ne-eqb}
 use lib.Dec.{eqb}
@@ -13,12 +13,11 @@ use Rattle.bits.specs.Bits.{bit, isOne}
 use Rattle.bits.proofs.Bits.{bit-below-two}
 use Rattle.coder.specs.Coder.{uplinkWords}
 use Rattle.coder.specs.Cost.{cost}
-use Rattle.coder.specs.Nearest.{nearest}
 use Rattle.coder.proofs.Nearest.{nearest-is}
 use Rattle.coder.proofs.Cost.{cost-le}
 use Rattle.whiten.specs.Whiten.{whitened}
 use Rattle.whiten.proofs.Whiten.{length-whitened}
-use Rattle.interleave.specs.Interleave.{codedBits, Length}
+use Rattle.interleave.specs.Interleave.{Length}
 use Rattle.interleave.specs.Bursts.{received}
 use Rattle.interleave.proofs.Bursts.{length-received}
 use Rattle.payload.specs.Payload.{payloadBits}
@@ -26,7 +25,6 @@ use Rattle.payload.specs.Open.{openRefusal, messageOf, modeOf}
 use Rattle.payload.specs.Contracts.{Opening}
 use Rattle.payload.specs.declared.Opened.the-variants as Opened-is
 use Rattle.search.specs.Search.{Found}
-use Rattle.uplink.specs.declared.Recovered.{Recovered}
 use Rattle.uplink.specs.declared.Recovered.the-variants as Recovered-is
 use Rattle.uplink.specs.Recover.{silent, nearestString, nearestCost, opened, recoverRefusal, Recovers}
 use Rattle.uplink.specs.Demands.{Formed}

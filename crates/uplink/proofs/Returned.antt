@@ -1,12 +1,11 @@
 -- Where the frame of a message is within half of the way to every other string, its message and mode are returned; so are those of a frame heard on the right side everywhere.
 -- Assumes nothing.
-use mathlib.Core.Bool.{Bool, true, false, cond, not, true≢false}
-use mathlib.Core.List.{List, [], _∷_, _++_}
+use mathlib.Core.Bool.{Bool, true, false, not, true≢false}
+use mathlib.Core.List.{List, [], _∷_}
 use mathlib.Core.Path.{_≡_, refl, sym, ap, subst, _∙_}
-use Prim.Native.Nat.{ℕ, zero, suc, _+_, _*_, _≤_, _<_}
+use Prim.Native.Nat.{ℕ, _*_, _<_}
 use native.Mathlib.Omega.{arith}
-use lib.Dec.{eqb}
-use lib.ListN.{length, getD, drop}
+use lib.ListN.{length, getD}
 use Rattle.coder.specs.Coder.{coded, uplinkWords}
 use Rattle.coder.specs.Cost.{cost, apart}
 use Rattle.coder.specs.Nearest.{nearest}
@@ -22,10 +21,9 @@ use Rattle.payload.specs.Payload.{payload, payloadBits}
 use Rattle.payload.specs.Open.{openRefusal, messageOf, modeOf}
 use Rattle.payload.proofs.Payload.{length-payload}
 use Rattle.payload.proofs.RoundTrip as Trip
-use Rattle.uplink.specs.declared.Recovered.{Recovered}
 use Rattle.uplink.specs.Frame.{codedPayload}
-use Rattle.uplink.specs.Recover.{silent, nearestString, opened, recoverRefusal, Recovers}
-use Rattle.uplink.specs.Demands.{Formed, Sendable, RightSide, Returned}
+use Rattle.uplink.specs.Recover.{silent, nearestString, opened, recoverRefusal}
+use Rattle.uplink.specs.Demands.{Formed, Sendable, RightSide}
 use Rattle.uplink.proofs.Refusals.{recover-opening}
 use Rattle.uplink.proofs.Silence.{received-silent, apart-zeros}
 use Rattle.uplink.proofs.Sides.{distance-right, apart-right}

@@ -1,13 +1,13 @@
 -- Values on the right side of every coded bit: the string costs nothing, and something stands between it and every other.
 -- Assumes nothing.
-use mathlib.Core.Bool.{Bool, true, false, cond, xor}
+use mathlib.Core.Bool.{Bool, true, false, xor}
 use mathlib.Core.List.{List, [], _∷_}
-use mathlib.Core.Path.{_≡_, refl, sym, ap, _∙_}
-use Prim.Native.Nat.{ℕ, zero, suc, _+_, _-_, _≤_, _<_}
+use mathlib.Core.Path.{_≡_, refl, ap}
+use Prim.Native.Nat.{ℕ, suc, _<_}
 use native.Mathlib.Omega.{arith}
 use borrow.Author.Tests.{le-leb, lt-leb}
 use lib.ListN.{length, getD}
-use Rattle.coder.specs.Cost.{negative, weight, against, distance, apart}
+use Rattle.coder.specs.Cost.{weight, against, distance, apart}
 use Rattle.uplink.specs.Demands.{RightSide}
 
 against-right : (b : Bool) (v : ℕ) → RightSide b v → against b v ≡ 0

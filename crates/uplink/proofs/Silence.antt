@@ -1,20 +1,20 @@
 -- Where no heard sub-packet has a non-zero value, every coded bit's value is zero, and nothing stands between two strings.
 -- Assumes nothing.
-use mathlib.Core.Bool.{Bool, true, false, cond, not, xor, _&&_, _||_, and-eq-true-iff}
+use mathlib.Core.Bool.{Bool, true, false, cond, not, xor, _||_, and-eq-true-iff}
 use mathlib.Core.List.{List, [], _∷_}
 use mathlib.Core.Path.{_≡_, refl, sym, ap, _∙_}
-use Prim.Native.Nat.{ℕ, zero, suc, _+_, _-_, _*_, _≤_, _<_}
+use Prim.Native.Nat.{ℕ, zero, suc, _+_, _*_, _<_}
 use native.Mathlib.Decide.{decLt}
 use native.Mathlib.Omega.{arith}
 use borrow.Author.Tests.{eqb-true, eq-eqb, lt-ltb, le-ltb}
-use lib.Dec.{ltb, eqb}
-use lib.ListN.{length, getD, take, drop, List·getD-eq-default}
+use lib.Dec.{eqb}
+use lib.ListN.{getD, take, drop, List·getD-eq-default}
 use lib.Seq.{getD-take, getD-drop}
 use Rattle.coder.specs.Cost.{weight, apart}
 use Rattle.interleave.specs.Interleave.{codedBits, packetOf, symbolOf, Length, DataSymbol}
 use Rattle.interleave.specs.Bursts.{valueOf, heard, received}
 use Rattle.interleave.proofs.Bursts.{length-received, getD-received}
-use Rattle.interleave.proofs.Placed.{placed-here, placed-packet, placed-data}
+use Rattle.interleave.proofs.Placed.{placed-here, placed-data}
 use Rattle.uplink.specs.Recover.{zeros, silent}
 
 zeros-at : (vs : List ℕ) → zeros vs ≡ true → (p : ℕ) → getD vs p 0 ≡ 0

@@ -15,7 +15,7 @@ use Rattle.payload.specs.Payload.{payload, payloadBits}
 use Rattle.payload.specs.Open.{openRefusal}
 use Rattle.uplink.specs.declared.Built.{Built}
 use Rattle.uplink.specs.declared.Recovered.{Recovered}
-use Rattle.uplink.specs.Answers.{builtRefusal, builtSize, recoveredRefusal, recoveredLength, recoveredMode, recoveredCost}
+use Rattle.uplink.specs.Answers.{builtRefusal, recoveredRefusal, recoveredLength, recoveredMode, recoveredCost}
 use Rattle.uplink.specs.Frame.{codedPayload, Frame}
 use Rattle.uplink.specs.Build.{frameSize, Builds}
 use Rattle.uplink.specs.Recover.{marksGood, silent, opened, Recovers}

@@ -1,16 +1,16 @@
 -- What the inner functions of build and recover say to each other. Nothing here has to be believed.
 -- Assumes nothing.
-use mathlib.Core.Bool.{Bool, true, false}
+use mathlib.Core.Bool.{false}
 use mathlib.Core.List.{List, _++_, map}
 use mathlib.Core.Path.{_≡_}
-use Prim.Native.Nat.{ℕ, _+_, _*_, _≤_, _<_}
+use Prim.Native.Nat.{ℕ, _+_, _*_, _≤_}
 use lib.ListN.{length, take, drop}
 use Rattle.bits.specs.Bits.{bit}
 use Rattle.interleave.specs.Interleave.{Length}
 use Rattle.payload.specs.Payload.{payloadBits}
 use Rattle.uplink.specs.Frame.{Frame}
 use Rattle.uplink.specs.Build.{frameSize}
-use Rattle.uplink.specs.Recover.{marksGood, silent, nearestCost, opened, recoverRefusal}
+use Rattle.uplink.specs.Recover.{silent, nearestCost, opened, recoverRefusal}
 use Rattle.uplink.specs.Demands.{Formed}
 
 -- a message that can be built, and room for its frame

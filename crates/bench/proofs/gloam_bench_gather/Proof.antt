@@ -1,9 +1,7 @@
 -- `bench::gloam_bench_gather` meets its contract. Assumes nothing.
-use mathlib.Core.Path.{_≡_, refl}
+use mathlib.Core.Path.{refl}
 use native.Mathlib.Omega.{arith}
 use borrow.Author.Needs.{needs}
-use Rattle.interleave.specs.Interleave.{Length}
-use Rattle.placing.specs.Placing.{GatherSizes}
 use Rattle.bench.proofs.gloam_bench_gather.Statement.{statement}
 use Rattle.bench.proofs.gloam_bench_gather.Tie as tie
 

@@ -1,5 +1,5 @@
 -- `bench::gloam_bench_search` meets its contract. Assumes nothing.
-use mathlib.Core.Path.{_≡_, refl}
+use mathlib.Core.Path.{refl}
 use native.Mathlib.Omega.{arith}
 use borrow.Author.Needs.{needs}
 use Rattle.bench.proofs.gloam_bench_search.Statement.{statement}

@@ -1,10 +1,8 @@
 -- `uplink::nearest_payload` meets its contract. Assumes nothing.
-use mathlib.Core.List.{List}
-use mathlib.Core.Path.{_≡_, refl, sym, ap, _∙_}
-use Prim.Native.Nat.{ℕ, _+_, _*_, _≤_}
+use mathlib.Core.Path.{_≡_, sym, _∙_}
+use Prim.Native.Nat.{ℕ, _+_, _*_}
 use native.Mathlib.Omega.{arith}
 use borrow.Author.Needs.{needs}
-use lib.ListN.{length, take, drop}
 use lib.Seq.{length-take-le}
 use Rattle.uplink.proofs.Building.{relent}
 use Rattle.uplink.proofs.Recovering.{nearing-of}

@@ -1,5 +1,5 @@
 -- `uplink::judge::build_refusal` meets its contract: each return is the first condition that holds. Assumes nothing.
-use mathlib.Core.Path.{_≡_, sym}
+use mathlib.Core.Path.{sym}
 use native.Mathlib.Omega.{arith}
 use Rattle.uplink.proofs.Refusals.{build-short, build-long, build-size, build-room, build-mode, build-done}
 use Rattle.uplink.proofs.judge.build_refusal.Statement.{statement}

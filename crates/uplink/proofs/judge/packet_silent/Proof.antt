@@ -1,5 +1,4 @@
 -- `uplink::judge::packet_silent` meets its contract. Assumes nothing.
-use mathlib.Core.Path.{_≡_, refl}
 use borrow.Author.Needs.{needs}
 use borrow.Author.Tests.{eq-eqb, ne-eqb}
 use Rattle.uplink.proofs.judge.packet_silent.Statement.{statement}
