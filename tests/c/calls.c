@@ -1,0 +1,96 @@
+#include "calls.h"
+
+#include "check.h"
+
+#include <stdio.h>
+#include <string.h>
+
+/* The most that any test lends beyond the greatest size. */
+enum { SPARE = 64 };
+
+void lent_make(struct lent *lent)
+{
+    guarded_make(&lent->message, "message", GLOAM_MOST_MESSAGE_SIZE + SPARE);
+    guarded_make(&lent->frame, "frame", GLOAM_MOST_FRAME_SIZE + SPARE);
+    guarded_make(&lent->marks, "marks", GLOAM_MOST_MARKS_SIZE + SPARE);
+    guarded_make(&lent->values, "values", GLOAM_MOST_VALUES_SIZE + SPARE);
+    guarded_make(&lent->capture, "capture", GLOAM_MOST_CAPTURE_SIZE + SPARE);
+}
+
+void lent_empty_as_null(struct guarded *buffer)
+{
+    if (buffer->size == 0)
+        buffer->bytes = NULL;
+}
+
+static void kept(struct guarded *buffer, size_t written)
+{
+    char what[80];
+    snprintf(what, sizeof what, "%s: every byte but those written is as before", buffer->name);
+    CHECK_TRUE(what, guarded_take_back(buffer, written));
+}
+
+gloam_written call_build(struct lent *lent, uint64_t length, uint64_t mode)
+{
+    struct guarded *message = &lent->message, *frame = &lent->frame;
+    guarded_lend_in(message);
+    guarded_lend_out(frame);
+    gloam_written answer = gloam_uplink_build(length, mode, message->bytes, message->size, frame->bytes, frame->size);
+    bool done = answer.refusal == GLOAM_DONE;
+    CHECK_NUMBER("size", done ? GLOAM_FRAME_SIZE(length) : 0, answer.size);
+    kept(message, 0);
+    kept(frame, done ? answer.size : 0);
+    return answer;
+}
+
+gloam_recovered call_recover(struct lent *lent, uint64_t length)
+{
+    struct guarded *marks = &lent->marks, *values = &lent->values, *message = &lent->message;
+    guarded_lend_in(marks);
+    guarded_lend_in(values);
+    guarded_lend_out(message);
+    gloam_recovered answer = gloam_uplink_recover(length, marks->bytes, marks->size, values->bytes, values->size, message->bytes, message->size);
+    bool done = answer.refusal == GLOAM_DONE;
+    CHECK_NUMBER("length", done ? length : 0, answer.length);
+    CHECK_TRUE("mode is 0 to 3, and 0 where refused", answer.mode <= (done ? 3 : 0));
+    CHECK_TRUE("cost is within its bound, and 0 where refused", answer.cost <= (done ? GLOAM_MOST_COST : 0));
+    kept(marks, 0);
+    kept(values, 0);
+    kept(message, done ? answer.length : 0);
+    return answer;
+}
+
+gloam_written call_capture_write(struct lent *lent, uint64_t length)
+{
+    struct guarded *marks = &lent->marks, *values = &lent->values, *capture = &lent->capture;
+    guarded_lend_in(marks);
+    guarded_lend_in(values);
+    guarded_lend_out(capture);
+    gloam_written answer = gloam_capture_write(length, marks->bytes, marks->size, values->bytes, values->size, capture->bytes, capture->size);
+    bool done = answer.refusal == GLOAM_DONE;
+    CHECK_NUMBER("size", done ? GLOAM_CAPTURE_SIZE(length) : 0, answer.size);
+    kept(marks, 0);
+    kept(values, 0);
+    kept(capture, done ? answer.size : 0);
+    return answer;
+}
+
+gloam_read call_capture_read(struct lent *lent)
+{
+    struct guarded *capture = &lent->capture, *marks = &lent->marks, *values = &lent->values;
+    guarded_lend_in(capture);
+    guarded_lend_out(marks);
+    guarded_lend_out(values);
+    gloam_read answer = gloam_capture_read(capture->bytes, capture->size, marks->bytes, marks->size, values->bytes, values->size);
+    bool done = answer.refusal == GLOAM_DONE;
+    CHECK_NUMBER("length", done ? capture->bytes[3] : 0, answer.length);
+    kept(capture, 0);
+    kept(marks, done ? GLOAM_MARKS_SIZE(answer.length) : 0);
+    kept(values, done ? GLOAM_VALUES_SIZE(answer.length) : 0);
+    return answer;
+}
+
+bool called_short(int argc, char **argv)
+{
+    return argc > 1 && strcmp(argv[1], "--short") == 0;
+}
