@@ -19,7 +19,7 @@ void gloam_bench_whiten(uint8_t *bits, size_t bits_size);
 #include <osmocom/core/conv.h>
 #endif
 
-enum { ROUNDS = 21, MOST_BITS = 2066, MOST_CODED = 3 * (MOST_BITS + 6) };
+enum { ROUNDS = 301, MOST_BITS = 2066, MOST_CODED = 3 * (MOST_BITS + 6) };
 
 static uint64_t seed = 20261115;
 static uint32_t next_random(void)
@@ -203,7 +203,7 @@ int main(void)
     printf("L    recover  search   gather  whiten  rest    outside  build   write   read    search a step  recover a step  libosmocore  search ratio  recover ratio\n");
     for (size_t i = 0; i < sizeof lengths / sizeof *lengths; i++) {
         size_t l = lengths[i], n = 26 + 8 * l;
-        struct times t = measure(l, (int)(200000 / n) + 1);
+        struct times t = measure(l, (int)(20000 / n) + 1);
         double steps = (double)(n + 6), rest = t.recover - t.search - t.gather - t.whiten, outside = 100 * (1 - t.search / t.recover);
         printf("%-4zu %-8.0f %-8.0f %-7.0f %-7.0f %-7.0f %3.0f %%    %-7.0f %-7.0f %-7.0f %-14.2f %-15.2f ", l, t.recover, t.search, t.gather, t.whiten, rest, outside, t.build, t.write, t.read, t.search / steps, t.recover / steps);
 #ifdef WITH_OSMOCORE
