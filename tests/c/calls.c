@@ -43,35 +43,42 @@ gloam_written call_build(struct lent *lent, uint64_t length, uint64_t mode)
     return answer;
 }
 
+/* Marks and values are lent to be read, and a room to be written. */
+static void lend_heard(struct lent *lent, struct guarded *room)
+{
+    guarded_lend_in(&lent->marks);
+    guarded_lend_in(&lent->values);
+    guarded_lend_out(room);
+}
+
+static void heard_kept(struct lent *lent, struct guarded *room, size_t written)
+{
+    kept(&lent->marks, 0);
+    kept(&lent->values, 0);
+    kept(room, written);
+}
+
 gloam_recovered call_recover(struct lent *lent, uint64_t length)
 {
     struct guarded *marks = &lent->marks, *values = &lent->values, *message = &lent->message;
-    guarded_lend_in(marks);
-    guarded_lend_in(values);
-    guarded_lend_out(message);
+    lend_heard(lent, message);
     gloam_recovered answer = gloam_uplink_recover(length, marks->bytes, marks->size, values->bytes, values->size, message->bytes, message->size);
     bool done = answer.refusal == GLOAM_DONE;
     CHECK_NUMBER("length", done ? length : 0, answer.length);
     CHECK_TRUE("mode is 0 to 3, and 0 where refused", answer.mode <= (done ? 3 : 0));
     CHECK_TRUE("cost is within its bound, and 0 where refused", answer.cost <= (done ? GLOAM_MOST_COST : 0));
-    kept(marks, 0);
-    kept(values, 0);
-    kept(message, done ? answer.length : 0);
+    heard_kept(lent, message, done ? answer.length : 0);
     return answer;
 }
 
 gloam_written call_capture_write(struct lent *lent, uint64_t length)
 {
     struct guarded *marks = &lent->marks, *values = &lent->values, *capture = &lent->capture;
-    guarded_lend_in(marks);
-    guarded_lend_in(values);
-    guarded_lend_out(capture);
+    lend_heard(lent, capture);
     gloam_written answer = gloam_capture_write(length, marks->bytes, marks->size, values->bytes, values->size, capture->bytes, capture->size);
     bool done = answer.refusal == GLOAM_DONE;
     CHECK_NUMBER("size", done ? GLOAM_CAPTURE_SIZE(length) : 0, answer.size);
-    kept(marks, 0);
-    kept(values, 0);
-    kept(capture, done ? answer.size : 0);
+    heard_kept(lent, capture, done ? answer.size : 0);
     return answer;
 }
 

@@ -66,24 +66,25 @@ static void every_size_of_build(void)
         CHECK_NUMBER("refusal", room < FRAME ? 3 : 0, build(LENGTH, MESSAGE, room));
 }
 
-static void every_size_of_recover(void)
+/* Recovery and capture writing take the same marks and values, and differ in the room that they need. */
+static void every_size_of_heard(uint32_t (*call)(uint64_t, size_t, size_t, size_t), size_t needed)
 {
     for (size_t size = 0; size <= MARKS + 12; size = next_size(size, MARKS))
-        CHECK_NUMBER("refusal", size == MARKS ? 0 : 2, recover(LENGTH, size, VALUES, MESSAGE));
+        CHECK_NUMBER("refusal", size == MARKS ? 0 : 2, call(LENGTH, size, VALUES, needed));
     for (size_t size = 0; size <= VALUES + 30; size = next_size(size, VALUES))
-        CHECK_NUMBER("refusal", size == VALUES ? 0 : 2, recover(LENGTH, MARKS, size, MESSAGE));
-    for (size_t room = 0; room <= MESSAGE + 12; room = next_size(room, MESSAGE))
-        CHECK_NUMBER("refusal", room < MESSAGE ? 3 : 0, recover(LENGTH, MARKS, VALUES, room));
+        CHECK_NUMBER("refusal", size == VALUES ? 0 : 2, call(LENGTH, MARKS, size, needed));
+    for (size_t room = 0; room <= needed + 30; room = next_size(room, needed))
+        CHECK_NUMBER("refusal", room < needed ? 3 : 0, call(LENGTH, MARKS, VALUES, room));
+}
+
+static void every_size_of_recover(void)
+{
+    every_size_of_heard(recover, MESSAGE);
 }
 
 static void every_size_of_capture_write(void)
 {
-    for (size_t size = 0; size <= MARKS + 12; size = next_size(size, MARKS))
-        CHECK_NUMBER("refusal", size == MARKS ? 0 : 2, capture_write(LENGTH, size, VALUES, CAPTURE));
-    for (size_t size = 0; size <= VALUES + 30; size = next_size(size, VALUES))
-        CHECK_NUMBER("refusal", size == VALUES ? 0 : 2, capture_write(LENGTH, MARKS, size, CAPTURE));
-    for (size_t room = 0; room <= CAPTURE + 30; room = next_size(room, CAPTURE))
-        CHECK_NUMBER("refusal", room < CAPTURE ? 3 : 0, capture_write(LENGTH, MARKS, VALUES, room));
+    every_size_of_heard(capture_write, CAPTURE);
 }
 
 static void every_size_of_capture_read(void)

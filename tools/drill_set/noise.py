@@ -20,16 +20,21 @@ def exact(length, cost, strength, attempt):
     return heard(name, reception, [sent], f"A frame of {length} bytes heard with {strength}; wrong values: {len(wrong)}; cost {cost:,}.")
 
 
-def flips(length, percent, attempt):
-    """So many in a hundred values are wrong, each with a weight of its own."""
-    name = f"length_{length:03}_wrong_{percent:02}_percent"
+def part_wrong(name, length, percent, attempt):
+    """A frame of which so many in a hundred values are wrong, each with a weight of its own: the frame, its reception, and what the page says."""
     dice = Dice(name, attempt)
     sent = drawn(dice, length)
     reception = Reception(sent, lambda: dice.between(1, 127))
     wrong = dice.chosen(len(sent.coded) * percent // 100, range(len(sent.coded)))
     reception.turn(wrong)
-    what = f"A frame of {length} bytes; {len(wrong)} of {len(sent.coded)} values are wrong, with weights from 1 to 127."
-    return heard(name, reception, [sent], what)
+    return sent, reception, f"A frame of {length} bytes; {len(wrong)} of {len(sent.coded)} values are wrong"
+
+
+def flips(length, percent, attempt):
+    """Wrong values, and the message comes back."""
+    name = f"length_{length:03}_wrong_{percent:02}_percent"
+    sent, reception, what = part_wrong(name, length, percent, attempt)
+    return heard(name, reception, [sent], f"{what}, with weights from 1 to 127.")
 
 
 def spread(length, apart, word, attempt):
@@ -55,13 +60,8 @@ def soft(length, centre, attempt):
 def too_much(length, percent, number, attempt):
     """So much is wrong that another string is nearer than the one sent, and it is no frame."""
     name = f"length_{length:03}_too_much_{percent:02}_percent"
-    dice = Dice(name, attempt)
-    sent = drawn(dice, length)
-    reception = Reception(sent, lambda: dice.between(1, 127))
-    wrong = dice.chosen(len(sent.coded) * percent // 100, range(len(sent.coded)))
-    reception.turn(wrong)
-    what = f"A frame of {length} bytes; {len(wrong)} of {len(sent.coded)} values are wrong, and the nearest string is another."
-    return searched(name, reception, f"REFUSED {number}", what)
+    _, reception, what = part_wrong(name, length, percent, attempt)
+    return searched(name, reception, f"REFUSED {number}", f"{what}, and the nearest string is another.")
 
 
 def cases():

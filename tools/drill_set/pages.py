@@ -8,8 +8,9 @@ START = """# The drill set
 Captures that tell builds apart. Each is a file NAME.capture, and NAME.line beside it has the line that a report program must print for it. `make drill`
 runs our own report over them; `make drill A=one B=other` two programs, against each other and against these lines.
 
-No line was taken from a program under test. Each follows from how its capture was made and from document 01; a decoder of its own that keeps whole
-strings (`tools/drill_set/nearest.py`) agreed with it before it was written. `tools/drill-set drill` makes the set again, byte for byte, and
+No line was taken from a program under test. Each follows from how its capture was made and from document 01, but for a few in `losses` and `noise` of
+which only a search tells the nearest string; for every line that a search decides, a decoder of its own that keeps whole strings
+(`tools/drill_set/nearest.py`) gives the same. `tools/drill-set drill` makes the set again, byte for byte, and
 `tools/drill-set --check` compares. `rust/tests/drill_rules.rs` shows which wrong rules the set catches, and with how many captures.
 
 | Kind | Captures | What it shows |

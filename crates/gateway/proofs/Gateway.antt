@@ -17,13 +17,13 @@ hands-same {fields = fields} p q one = p .handed ∙ ap fields one ∙ sym (q .h
 pub no-second : NoSecond
 no-second =
     record {
-      buildFields = λ p q. hands-same p q (uplink.no-second .buildAnswer (p .meets) (q .meets));
+      buildAnswer = λ p q. hands-same p q (uplink.no-second .buildAnswer (p .meets) (q .meets));
       buildBuffer = λ p q. uplink.no-second .buildBuffer (p .meets) (q .meets);
-      recoverFields = λ p q. hands-same p q (uplink.no-second .recoverAnswer (p .meets) (q .meets));
+      recoverAnswer = λ p q. hands-same p q (uplink.no-second .recoverAnswer (p .meets) (q .meets));
       recoverBuffer = λ p q. uplink.no-second .recoverBuffer (p .meets) (q .meets);
-      writeFields = λ p q. hands-same p q (capture.no-second .writeAnswer (p .meets) (q .meets));
+      writeAnswer = λ p q. hands-same p q (capture.no-second .writeAnswer (p .meets) (q .meets));
       writeBuffer = λ p q. capture.no-second .writeBuffer (p .meets) (q .meets);
-      readFieldsOf = λ p q. hands-same p q (capture.no-second .readAnswer (p .meets) (q .meets));
+      readAnswer = λ p q. hands-same p q (capture.no-second .readAnswer (p .meets) (q .meets));
       readMarks = λ p q. capture.no-second .readMarks (p .meets) (q .meets);
       readValues = λ p q. capture.no-second .readValues (p .meets) (q .meets);
     }

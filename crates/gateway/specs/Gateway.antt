@@ -44,25 +44,25 @@ pub record Hands {Answer Fields : Type 0} (Meets : Answer → Type 0) (fields : 
 
 -- no second struct, and no second state of a lent buffer, is possible
 pub record NoSecond : Type 0 where
-  pub buildFields :
+  pub buildAnswer :
       {l mode : ℕ} {message before after after′ : List ℕ} {r r′ : GloamWritten}
       → Hands (Builds l mode message before after) builtFields r → Hands (Builds l mode message before after′) builtFields r′ → r ≡ r′
   pub buildBuffer :
       {l mode : ℕ} {message before after after′ : List ℕ} {r r′ : GloamWritten}
       → Hands (Builds l mode message before after) builtFields r → Hands (Builds l mode message before after′) builtFields r′ → after ≡ after′
-  pub recoverFields :
+  pub recoverAnswer :
       {l : ℕ} {marks values before after after′ : List ℕ} {r r′ : GloamRecovered}
       → Hands (Recovers l marks values before after) recoveredFields r → Hands (Recovers l marks values before after′) recoveredFields r′ → r ≡ r′
   pub recoverBuffer :
       {l : ℕ} {marks values before after after′ : List ℕ} {r r′ : GloamRecovered}
       → Hands (Recovers l marks values before after) recoveredFields r → Hands (Recovers l marks values before after′) recoveredFields r′ → after ≡ after′
-  pub writeFields :
+  pub writeAnswer :
       {l : ℕ} {marks values before after after′ : List ℕ} {r r′ : GloamWritten}
       → Hands (Writes l marks values before after) writtenFields r → Hands (Writes l marks values before after′) writtenFields r′ → r ≡ r′
   pub writeBuffer :
       {l : ℕ} {marks values before after after′ : List ℕ} {r r′ : GloamWritten}
       → Hands (Writes l marks values before after) writtenFields r → Hands (Writes l marks values before after′) writtenFields r′ → after ≡ after′
-  pub readFieldsOf :
+  pub readAnswer :
       {c marks values marks₁ marks₂ values₁ values₂ : List ℕ} {r r′ : GloamRead}
       → Hands (Reads c marks values marks₁ values₁) readFields r → Hands (Reads c marks values marks₂ values₂) readFields r′ → r ≡ r′
   pub readMarks :
