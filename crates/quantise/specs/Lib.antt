@@ -1,0 +1,7 @@
+pub mod Number
+pub mod Value
+pub mod Finding
+pub mod Answers
+pub mod Quantise
+pub mod Promises
+pub mod Parts
