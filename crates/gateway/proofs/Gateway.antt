@@ -2,6 +2,7 @@
 use mathlib.Core.Path.{_≡_, sym, ap, _∙_}
 use Rattle.uplink.proofs.ShutOut as uplink
 use Rattle.capture.proofs.Promises as capture
+use Rattle.quantise.proofs.Unique as quantise
 use Rattle.gateway.specs.Gateway.{Hands, NoSecond}
 
 -- an answer that meets the contract and is known to be b is handed on as the fields of b
@@ -26,4 +27,6 @@ no-second =
       readAnswer = λ p q. hands-same p q (capture.no-second .readAnswer (p .meets) (q .meets));
       readMarks = λ p q. capture.no-second .readMarks (p .meets) (q .meets);
       readValues = λ p q. capture.no-second .readValues (p .meets) (q .meets);
+      quantiseAnswer = λ p q. hands-same p q (quantise.no-second .answer (p .meets) (q .meets));
+      quantiseBuffer = λ p q. quantise.no-second .buffer (p .meets) (q .meets);
     }

@@ -1,8 +1,9 @@
 -- What C gets of each operation: an answer that meets the operation's contract, in document 01's numbers, field by field.
--- To be believed: Hands, builtFields, recoveredFields, writtenFields, readFields; NoSecond is what follows. Assumes nothing.
+-- To be believed: Hands, builtFields, recoveredFields, writtenFields, readFields, quantisedFields, version; NoSecond is what follows. Assumes nothing.
 use mathlib.Core.List.{List}
 use mathlib.Core.Path.{_≡_}
 use Prim.Native.Nat.{ℕ}
+use lib.Ieee.{Float}
 use Rattle.uplink.specs.declared.Built.{Built}
 use Rattle.uplink.specs.declared.Recovered.{Recovered}
 use Rattle.uplink.specs.Answers.{builtRefusal, builtSize, recoveredRefusal, recoveredLength, recoveredMode, recoveredCost}
@@ -13,9 +14,17 @@ use Rattle.capture.specs.declared.Read.{Read}
 use Rattle.capture.specs.Answers.{writtenRefusal, writtenSize, readRefusalOf, readLength}
 use Rattle.capture.specs.Writing.{Writes}
 use Rattle.capture.specs.Reading.{Reads}
+use Rattle.quantise.specs.declared.Quantised.{Quantised}
+use Rattle.quantise.specs.Answers.{quantisedRefusal, quantisedFinding, quantisedPeak}
+use Rattle.quantise.specs.Quantise.{Quantises}
 use Rattle.gateway.specs.declared.GloamWritten.{GloamWritten}
 use Rattle.gateway.specs.declared.GloamRead.{GloamRead}
 use Rattle.gateway.specs.declared.GloamRecovered.{GloamRecovered}
+use Rattle.gateway.specs.declared.GloamQuantised.{GloamQuantised}
+
+-- the version of the interface: 100 times the minor number of the file VERSION
+abbrev pub version : ℕ
+version = 200
 
 -- the struct that C gets for each answer: the refusal, 0 where it is done, and the answer's numbers, 0 where it is refused
 abbrev pub builtFields : Built → GloamWritten
@@ -35,6 +44,9 @@ writtenFields answer = record { refusal = writtenRefusal answer; size = writtenS
 
 abbrev pub readFields : Read → GloamRead
 readFields answer = record { refusal = readRefusalOf answer; length = readLength answer }
+
+abbrev pub quantisedFields : Quantised → GloamQuantised
+quantisedFields answer = record { refusal = quantisedRefusal answer; finding = quantisedFinding answer; peak = quantisedPeak answer }
 
 -- C is handed the fields of an answer that meets the contract
 pub record Hands {Answer Fields : Type 0} (Meets : Answer → Type 0) (fields : Answer → Fields) (r : Fields) : Type 0 where
@@ -71,3 +83,9 @@ pub record NoSecond : Type 0 where
   pub readValues :
       {c marks values marks₁ marks₂ values₁ values₂ : List ℕ} {r r′ : GloamRead}
       → Hands (Reads c marks values marks₁ values₁) readFields r → Hands (Reads c marks values marks₂ values₂) readFields r′ → values₁ ≡ values₂
+  pub quantiseAnswer :
+      {numbers : List Float} {before after after′ : List ℕ} {r r′ : GloamQuantised}
+      → Hands (Quantises numbers before after) quantisedFields r → Hands (Quantises numbers before after′) quantisedFields r′ → r ≡ r′
+  pub quantiseBuffer :
+      {numbers : List Float} {before after after′ : List ℕ} {r r′ : GloamQuantised}
+      → Hands (Quantises numbers before after) quantisedFields r → Hands (Quantises numbers before after′) quantisedFields r′ → after ≡ after′

@@ -1,13 +1,17 @@
-// The C interface, as include/gloamstrother.h tells it: build and recover, and the stored capture both ways, each handing on just what the operation answers. None asks anything of its caller.
+// The C interface, as include/gloamstrother.h tells it: build and recover, the stored capture both ways, and the values of a burst, each handing on just what the operation answers. None asks anything of its caller.
 use capture::Read;
 use capture::Written;
+use quantise::Finding;
+use quantise::Quantised;
 use uplink::Built;
 use uplink::Recovered;
 ghost use Rattle.uplink.specs.Build.{Builds};
 ghost use Rattle.uplink.specs.Recover.{Recovers};
 ghost use Rattle.capture.specs.Writing.{Writes};
 ghost use Rattle.capture.specs.Reading.{Reads};
-ghost use Rattle.gateway.specs.Gateway.{Hands, builtFields, recoveredFields, writtenFields, readFields};
+ghost use Rattle.quantise.specs.Quantise.{Quantises};
+ghost use Rattle.gateway.specs.Gateway.{Hands, builtFields, recoveredFields, writtenFields, readFields, quantisedFields, version};
+ghost use mathlib.Core.Path.{_≡_};
 
 // gloam_written: 0 and the bytes written, or the refusal and 0.
 #[repr(C)]
@@ -30,6 +34,22 @@ pub struct GloamRecovered {
     pub length: u32,
     pub mode: u32,
     pub cost: u32,
+}
+
+// gloam_quantised: 0, the finding (1 heard, 2 silent, 3 faulty) and the peak of one that is heard, or the refusal; what does not hold is 0.
+#[repr(C)]
+pub struct GloamQuantised {
+    pub refusal: u32,
+    pub finding: u32,
+    pub peak: f32,
+}
+
+// The version of this interface, 100 times the minor number.
+#[no_mangle]
+pub extern "C" fn gloam_version() -> u32
+    ensures { λ r. ⌜ r ≡ version ⌝ }
+{
+    200
 }
 
 // The frame of a message to the start of `frame`.
@@ -110,5 +130,37 @@ pub extern "C" fn gloam_capture_read(
     match answer {
         Read::Done(length) => GloamRead { refusal: 0, length },
         Read::Refused(refusal) => GloamRead { refusal, length: 0 },
+    }
+}
+
+// The values of the numbers of one burst to the start of `values`, and what was found.
+#[no_mangle]
+pub extern "C" fn gloam_burst_quantise(numbers: &[f32], values: &mut [u8]) -> GloamQuantised
+    ensures { λ r. ⌜ Hands (Quantises (now (numbers .entry)) (now (values .entry)) (now (values .exit))) quantisedFields r ⌝ }
+{
+    let answer = quantise::quantise(numbers, values);
+    match answer {
+        Quantised::Done(found) => match found {
+            Finding::Heard(peak) => GloamQuantised {
+                refusal: 0,
+                finding: 1,
+                peak,
+            },
+            Finding::Silent => GloamQuantised {
+                refusal: 0,
+                finding: 2,
+                peak: 0.0,
+            },
+            Finding::Faulty => GloamQuantised {
+                refusal: 0,
+                finding: 3,
+                peak: 0.0,
+            },
+        },
+        Quantised::Refused(refusal) => GloamQuantised {
+            refusal,
+            finding: 0,
+            peak: 0.0,
+        },
     }
 }

@@ -5,3 +5,4 @@ pub mod Values
 pub mod Findings
 pub mod Filling
 pub mod Refusals
+pub mod Unique

@@ -1,16 +1,15 @@
 -- What each answer says in numbers: refusal 0 where it is done, and then the finding: 1 heard, 2 silent, 3 faulty, and the peak of one that is heard; else the refusal's number. What does not hold is 0.
 -- To be believed: all of it. Assumes nothing.
-use mathlib.Core.Bool.{false}
 use Prim.Native.Nat.{ℕ}
-use lib.Ieee.{Float, fin}
-use lib.IntN.{pos}
+use lib.Ieee.{Float, binary32, ofBits}
 use Rattle.quantise.specs.declared.Finding.{Finding}
 use Rattle.quantise.specs.declared.Finding.the-variants.{Heard, Silent, Faulty}
 use Rattle.quantise.specs.declared.Quantised.{Quantised}
 use Rattle.quantise.specs.declared.Quantised.the-variants as Quantised-is
 
+-- the number whose bits are all 0
 abbrev pub plusZero : Float
-plusZero = fin false 0 (pos 0)
+plusZero = ofBits binary32 0
 
 abbrev pub findingNumber : Finding → ℕ
 findingNumber (Heard peak) = 1

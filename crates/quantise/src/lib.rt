@@ -24,11 +24,7 @@ pub enum Quantised {
 fn pattern(x: f32) -> u32
     ensures { λ r. ⌜ r ≡ toBits binary32 x ⌝ }
 {
-    if x != x {
-        0x7fc0_0000
-    } else {
-        f32::to_bits(x)
-    }
+    if x != x { 0x7fc0_0000 } else { f32::to_bits(x) }
 }
 
 // The greater of two numbers.
