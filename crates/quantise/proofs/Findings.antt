@@ -68,7 +68,7 @@ zero-at b = elim (three b) [
 ]
 
 -- for numbers that are no NaN
-exceeds-order : (a b : ℕ) → magnitude a ≤ infinity → magnitude b ≤ infinity → exceeds (numberOf a) (numberOf b) ≡ ltb (magnitude b) (magnitude a)
+pub exceeds-order : (a b : ℕ) → magnitude a ≤ infinity → magnitude b ≤ infinity → exceeds (numberOf a) (numberOf b) ≡ ltb (magnitude b) (magnitude a)
 exceeds-order a b ha hb = go (eq-or-lt-of-le ha) (eq-or-lt-of-le hb)
   where
     go : (magnitude a ≡ infinity) ⊎ (magnitude a < infinity) → (magnitude b ≡ infinity) ⊎ (magnitude b < infinity) → exceeds (numberOf a) (numberOf b) ≡ ltb (magnitude b) (magnitude a)

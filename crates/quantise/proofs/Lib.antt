@@ -6,3 +6,8 @@ pub mod Findings
 pub mod Filling
 pub mod Refusals
 pub mod Unique
+pub mod Nearest
+pub mod Promised
+pub mod Account
+pub mod Peaks
+pub mod Promises

@@ -1,0 +1,133 @@
+-- What is promised of values: nearest, halves away from zero, in order, opposite, and never -128. Assumes nothing.
+use mathlib.Core.Bool.{Bool, true, false, not}
+use mathlib.Core.Path.{_≡_, refl, sym, ap, _∙_}
+use Prim.Native.Nat.{ℕ, _+_, _-_, _*_, _/_, _%_, _^_, _≤_, _<_, min}
+use native.Mathlib.Nat.{min-le-right, le-of-eq}
+use native.Mathlib.Omega.{arith}
+use lib.Pow.{pow-pos}
+use Rattle.quantise.specs.Number.{Number, notANumber, infinite, exactly}
+use Rattle.quantise.specs.Value.{nearestWhole, held, byteOf, valueOf}
+use Rattle.quantise.specs.Promises.{distance, opposite, AtMost, same, fromMinusInfinity, toInfinity, infinities, minus, minusPlus, plus, zeros, Is, Values}
+use Rattle.quantise.proofs.Rounding.{nearest-mono}
+use Rattle.quantise.proofs.Nearest.{gap, nearest-same, nearest-other, tie-same, tie-other, half-free}
+
+-- the sign and magnitude of every value
+abbrev sideOf : Number → Bool
+sideOf notANumber = false
+sideOf (infinite s) = s
+sideOf (exactly s u) = s
+
+abbrev sizeOf : Number → ℕ
+sizeOf notANumber = 0
+sizeOf (infinite s) = 127
+sizeOf (exactly s u) = held (nearestWhole u)
+
+value-is : (n : Number) → Is (valueOf n) (sideOf n) (sizeOf n)
+unfolding valueOf
+value-is notANumber = record { byte = refl; within = omega arith }
+value-is (infinite s) = record { byte = refl; within = omega arith }
+value-is (exactly s u) = record { byte = refl; within = min-le-right (nearestWhole u) 127 }
+
+-- ---- bytes in two's complement
+
+byte-below : (s : Bool) (w : ℕ) → w ≤ 127 → byteOf s w < 256
+byte-below false w h = omega arith
+byte-below true w h = omega arith
+
+never-128 : (s : Bool) (w : ℕ) → w ≤ 127 → byteOf s w ≡ 128 → ⊥
+never-128 false w h e = omega arith
+never-128 true w h e = omega arith
+
+opposite-bytes : (s : Bool) (w : ℕ) → w ≤ 127 → (byteOf s w + byteOf (not s) w) % 256 ≡ 0
+opposite-bytes false w h = omega arith
+opposite-bytes true w h = omega arith
+
+raised-plus : (w : ℕ) → w ≤ 127 → (byteOf false w + 128) % 256 ≡ 128 + w
+raised-plus w h = omega arith
+
+raised-minus : (w : ℕ) → w ≤ 127 → (byteOf true w + 128) % 256 ≡ 128 - w
+raised-minus w h = omega arith
+
+-- ---- order
+
+least-raised : (s : Bool) (w : ℕ) → w ≤ 127 → (byteOf true 127 + 128) % 256 ≤ (byteOf s w + 128) % 256
+least-raised false w h = omega (arith, raised-plus w h)
+least-raised true w h = omega (arith, raised-minus w h)
+
+most-raised : (s : Bool) (w : ℕ) → w ≤ 127 → (byteOf s w + 128) % 256 ≤ (byteOf false 127 + 128) % 256
+most-raised false w h = omega (arith, raised-plus w h)
+most-raised true w h = omega (arith, raised-minus w h)
+
+plus-raised : (v w : ℕ) → w ≤ 127 → v ≤ w → (byteOf false v + 128) % 256 ≤ (byteOf false w + 128) % 256
+plus-raised v w h l = omega (arith, raised-plus v (omega arith), raised-plus w h)
+
+minus-raised : (v w : ℕ) → w ≤ 127 → v ≤ w → (byteOf true w + 128) % 256 ≤ (byteOf true v + 128) % 256
+minus-raised v w h l = omega (arith, raised-minus v (omega arith), raised-minus w h)
+
+sides-raised : (v w : ℕ) → v ≤ 127 → w ≤ 127 → (byteOf true v + 128) % 256 ≤ (byteOf false w + 128) % 256
+sides-raised v w h k = omega (arith, raised-minus v h, raised-plus w k)
+
+held-below : (u : ℕ) → held (nearestWhole u) ≤ 127
+held-below u = min-le-right (nearestWhole u) 127
+
+held-mono : {u v : ℕ} → u ≤ v → held (nearestWhole u) ≤ held (nearestWhole v)
+held-mono l = omega (arith, nearest-mono l)
+
+ordered : {x y : Number} → AtMost x y → (valueOf x + 128) % 256 ≤ (valueOf y + 128) % 256
+unfolding valueOf
+ordered {x} same = le-of-eq refl
+ordered (fromMinusInfinity {s} {u}) = least-raised s (held (nearestWhole u)) (held-below u)
+ordered (toInfinity {s} {u}) = most-raised s (held (nearestWhole u)) (held-below u)
+ordered infinities = omega arith
+ordered (minus {u} {v} l) = minus-raised (held (nearestWhole v)) (held (nearestWhole u)) (held-below u) (held-mono l)
+ordered (minusPlus {u} {v}) = sides-raised (held (nearestWhole u)) (held (nearestWhole v)) (held-below u) (held-below v)
+ordered (plus {u} {v} l) = plus-raised (held (nearestWhole u)) (held (nearestWhole v)) (held-below v) (held-mono l)
+ordered zeros = le-of-eq refl
+
+-- ---- distance, where half a unit is 2^148
+
+least : (s t : Bool) (u v : ℕ) → v ≤ 127 → distance s u s (held (nearestWhole u)) ≤ distance s u t v
+unfolding nearestWhole
+least false false u v k = nearest-same u (2 ^ 148) (pow-pos 148) v k
+least false true u v k = nearest-other u (2 ^ 148) (pow-pos 148) v
+least true false u v k = nearest-other u (2 ^ 148) (pow-pos 148) v
+least true true u v k = nearest-same u (2 ^ 148) (pow-pos 148) v k
+
+ties : (s t : Bool) (u v : ℕ) → v ≤ 127 → distance s u s (held (nearestWhole u)) ≡ distance s u t v → v ≤ held (nearestWhole u)
+unfolding nearestWhole
+ties false false u v k e = tie-same u (2 ^ 148) (pow-pos 148) v k e
+ties false true u v k e = tie-other u (2 ^ 148) (pow-pos 148) v k e
+ties true false u v k e = tie-other u (2 ^ 148) (pow-pos 148) v k e
+ties true true u v k e = tie-same u (2 ^ 148) (pow-pos 148) v k e
+
+twice-half : (a h : ℕ) → a ≤ h → 2 * a ≤ h + h
+twice-half a h l = omega arith
+
+within : (s : Bool) (u : ℕ) → 2 * u < 255 * 2 ^ 149 → 2 * distance s u s (held (nearestWhole u)) ≤ 2 ^ 149
+unfolding nearestWhole
+within false u l = twice-half (gap u (held (nearestWhole u) * 2 ^ 149)) (2 ^ 148) (half-free u (2 ^ 148) (pow-pos 148) l)
+within true u l = twice-half (gap u (held (nearestWhole u) * 2 ^ 149)) (2 ^ 148) (half-free u (2 ^ 148) (pow-pos 148) l)
+
+opposites : (n : Number) → (valueOf n + valueOf (opposite n)) % 256 ≡ 0
+unfolding valueOf
+opposites notANumber = refl
+opposites (infinite s) = opposite-bytes s 127 (omega arith)
+opposites (exactly s u) = opposite-bytes s (held (nearestWhole u)) (held-below u)
+
+of-nan : valueOf notANumber ≡ 0
+unfolding valueOf
+of-nan = refl
+
+pub values : Values
+values =
+    record {
+      nearest = λ s u. (held (nearestWhole u), value-is (exactly s u), λ t v k. least s t u v k);
+      withinHalf = λ s u l. (held (nearestWhole u), value-is (exactly s u), within s u l);
+      halves = λ s u. (held (nearestWhole u), value-is (exactly s u), λ t v k e. ties s t u v k e);
+      ofNaN = of-nan;
+      ofInfinity = λ s. value-is (infinite s);
+      neverMinus128 = λ n e. never-128 (sideOf n) (sizeOf n) (value-is n .within) (sym (value-is n .byte) ∙ e);
+      aByte = λ n. rw (value-is n .byte) (byte-below (sideOf n) (sizeOf n) (value-is n .within));
+      opposites = opposites;
+      ordered = λ p. ordered p;
+    }
