@@ -11,3 +11,4 @@ pub mod Promised
 pub mod Account
 pub mod Peaks
 pub mod Promises
+pub mod Cases

@@ -1,10 +1,13 @@
 -- What is promised of values: nearest, halves away from zero, in order, opposite, and never -128. Assumes nothing.
 use mathlib.Core.Bool.{Bool, true, false, not}
-use mathlib.Core.Path.{_≡_, refl, sym, ap, _∙_}
+use mathlib.Core.Logic.{⊎-elim}
+use mathlib.Core.Path.{_≡_, refl, sym, _∙_}
 use Prim.Native.Nat.{ℕ, _+_, _-_, _*_, _/_, _%_, _^_, _≤_, _<_, min}
-use native.Mathlib.Nat.{min-le-right, le-of-eq}
+use native.Mathlib.Nat.{min-le-right, le-of-eq, eq-zero-or-pos}
 use native.Mathlib.Omega.{arith}
+use borrow.Author.Tests.{le-leb, lt-leb}
 use lib.Pow.{pow-pos}
+use Rattle.coder.specs.Cost.{weight, against}
 use Rattle.quantise.specs.Number.{Number, notANumber, infinite, exactly}
 use Rattle.quantise.specs.Value.{nearestWhole, held, byteOf, valueOf}
 use Rattle.quantise.specs.Promises.{distance, opposite, AtMost, same, fromMinusInfinity, toInfinity, infinities, minus, minusPlus, plus, zeros, Is, Values}
@@ -47,6 +50,26 @@ raised-plus w h = omega arith
 
 raised-minus : (w : ℕ) → w ≤ 127 → (byteOf true w + 128) % 256 ≡ 128 - w
 raised-minus w h = omega arith
+
+-- ---- what a byte stands against
+
+against-plus : (w : ℕ) → w ≤ 127 → (against false (byteOf false w) ≡ w) × (against true (byteOf false w) ≡ 0)
+unfolding against weight
+against-plus w h = (rw (lt-leb 128 w (omega arith)), rw (lt-leb 128 w (omega arith)))
+
+against-minus : (w : ℕ) → w ≤ 127 → (against true (byteOf true w) ≡ w) × (against false (byteOf true w) ≡ 0)
+unfolding against weight
+against-minus w h = ⊎-elim
+    (λ (z : w ≡ 0). rw z (refl, refl))
+    (λ (l : 0 < w).
+    let far : (256 - w) % 256 ≡ 256 - w = omega arith in
+    let back : 256 - (256 - w) ≡ w = omega arith in
+    rw (far, le-leb 128 (256 - w) (omega arith)) (back, refl))
+    (eq-zero-or-pos w)
+
+against-value : (s : Bool) (u : ℕ) → (against s (valueOf (exactly s u)) ≡ held (nearestWhole u)) × (against (not s) (valueOf (exactly s u)) ≡ 0)
+against-value false u = rw (value-is (exactly false u) .byte) (against-plus (held (nearestWhole u)) (min-le-right (nearestWhole u) 127))
+against-value true u = rw (value-is (exactly true u) .byte) (against-minus (held (nearestWhole u)) (min-le-right (nearestWhole u) 127))
 
 -- ---- order
 
@@ -126,6 +149,7 @@ values =
       halves = λ s u. (held (nearestWhole u), value-is (exactly s u), λ t v k e. ties s t u v k e);
       ofNaN = of-nan;
       ofInfinity = λ s. value-is (infinite s);
+      against = λ s u. against-value s u;
       neverMinus128 = λ n e. never-128 (sideOf n) (sizeOf n) (value-is n .within) (sym (value-is n .byte) ∙ e);
       aByte = λ n. rw (value-is n .byte) (byte-below (sideOf n) (sizeOf n) (value-is n .within));
       opposites = opposites;

@@ -4,4 +4,5 @@ pub mod Finding
 pub mod Answers
 pub mod Quantise
 pub mod Promises
+pub mod Cases
 pub mod Parts

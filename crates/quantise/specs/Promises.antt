@@ -7,8 +7,9 @@ use Prim.Native.Nat.{ℕ, _+_, _-_, _*_, _%_, _^_, _≤_, _<_}
 use lib.Dec.{T}
 use lib.Ieee.{Float, nan, inf, fin, binary32, toBits, fits, up, down}
 use lib.ListN.{length, getD}
+use Rattle.coder.specs.Cost as coder
 use Rattle.quantise.specs.Number.{Number, notANumber, infinite, exactly, numberOf}
-use Rattle.quantise.specs.Value.{byteOf, valueOf}
+use Rattle.quantise.specs.Value.{nearestWhole, held, byteOf, valueOf}
 use Rattle.quantise.specs.Finding.{magnitude, exceeds, someNaN, allZero}
 use Rattle.quantise.specs.declared.Finding.the-variants.{Heard, Silent, Faulty}
 use Rattle.quantise.specs.declared.Quantised.{Quantised}
@@ -65,6 +66,9 @@ pub record Values : Type 0 where
   -- "a NaN becomes 0"; "Infinities count as ±127"
   pub ofNaN : valueOf notANumber ≡ 0
   pub ofInfinity : (s : Bool) → Is (valueOf (infinite s)) s 127
+  -- what recovery hears of a number: it stands against the bit that it does not say by its rounded magnitude, and against the other by nothing. A negative number says 0
+  pub against :
+      (s : Bool) (u : ℕ) → (coder.against s (valueOf (exactly s u)) ≡ held (nearestWhole u)) × (coder.against (not s) (valueOf (exactly s u)) ≡ 0)
   -- every value is from -127 to 127: no byte is ever -128
   pub neverMinus128 : (n : Number) → valueOf n ≡ 128 → ⊥
   pub aByte : (n : Number) → valueOf n < 256
