@@ -4,12 +4,13 @@
 # make test               the gate: proofs, must-fail edits, programs, captures, the drill, and the archive against independent decoders in C and Rust
 # make compare            the archive against the independent decoder on CASES random cases (300,000), from SEED
 # make fuzz               the same under libFuzzer, for SECONDS_EACH seconds a target
+# make floats             all 2^32 single-precision numbers through the archive, against a second computation in whole numbers
 # make drill A=path B=path CAPTURES=dir   hold one report program, or two, to the drill set or to a folder of captures
 # make bench              measure the four calls (and libosmocore's decoder where it is installed)
 # make clean              remove what was built
 
 .DEFAULT_GOAL := all
-.PHONY: all run install test compare fuzz drill bench clean tools
+.PHONY: all run install test compare fuzz floats drill bench clean tools
 
 all: tools
 	rt check
@@ -32,6 +33,9 @@ compare:
 
 fuzz:
 	@SECONDS_EACH="$(SECONDS_EACH)" tools/fuzz
+
+floats:
+	@tools/floats
 
 drill:
 	@test -n "$(A)" || tools/built report

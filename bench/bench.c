@@ -1,6 +1,9 @@
-/* The benchmark: the four calls of the C interface, and the steps of recovery by themselves, against libosmocore's decoder alone, in one run on
- * the same soft values: a built frame of random bytes, heard with noise and with one sub-packet in eight lost. Each round measures every
- * candidate in turn; the least time of all rounds counts. No buffer is cleared between calls. See docs/CHANGES.md for figures. */
+/* The benchmark: the calls of the C interface on a frame, and the steps of recovery by themselves, against libosmocore's decoder alone, in one run
+ * on the same soft values: a built frame of random bytes, heard with noise and with one sub-packet in eight lost; and quantising a burst,
+ * against a plain loop in C on the same numbers. Each round measures every candidate in turn; the least time of all rounds counts. No buffer
+ * is cleared between calls. See docs/CHANGES.md for figures. */
+#include <math.h>
+#include <stdbool.h>
 #include <stdint.h>
 #include <stdio.h>
 #include <stdlib.h>
@@ -195,6 +198,90 @@ static struct times measure(size_t l, int repeats)
     return best;
 }
 
+enum { BURSTS = 64, NUMBERS = GLOAM_BURST_VALUES * BURSTS, QUANTISE_REPEATS = 8 };
+
+/* What a caller would write without the archive: the value, the finding and the peak of 24 numbers. Out of line, as the archive's call is. */
+static __attribute__((noinline, noclone)) uint32_t plain_quantise(const float *numbers, uint8_t *values, float *peak)
+{
+    bool is_faulty = false;
+    float most = 0;
+    for (size_t k = 0; k < GLOAM_BURST_VALUES; k++) {
+        float number = numbers[k], magnitude = fabsf(number), whole = roundf(number);
+        is_faulty = is_faulty || isnan(number);
+        most = magnitude > most ? magnitude : most;
+        values[k] = (uint8_t)(int8_t)(isnan(number) ? 0 : whole > 127 ? 127 : whole < -127 ? -127 : whole);
+    }
+    *peak = is_faulty ? 0 : most;
+    return is_faulty ? GLOAM_FAULTY : most > 0 ? GLOAM_HEARD : GLOAM_SILENT;
+}
+
+/* The bursts in turn, by either. */
+static void quantise_plain(const float *numbers, uint8_t *values, float *peaks)
+{
+    for (size_t b = 0; b < BURSTS; b++)
+        must(plain_quantise(numbers + 24 * b, values + 24 * b, peaks + b) == 0);
+}
+
+static void quantise(const float *numbers, uint8_t *values, float *peaks)
+{
+    for (size_t b = 0; b < BURSTS; b++) {
+        gloam_quantised answer = gloam_burst_quantise(numbers + 24 * b, GLOAM_BURST_VALUES, values + 24 * b, GLOAM_BURST_VALUES);
+        must(answer.refusal);
+        peaks[b] = answer.peak;
+    }
+}
+
+/* Numbers on either side of zero, at 60 with noise, some beyond 127. */
+static float usual_number(void)
+{
+    float strength = 60 + (float)(next_random() % 80000) / 1000 - (float)(next_random() % 80000) / 1000;
+    return next_random() % 2 == 0 ? strength : -strength;
+}
+
+/* The same, and one in eight a zero, an infinity or a NaN. */
+static float mixed_number(void)
+{
+    static const float others[] = {0.0f, -0.0f, INFINITY, -INFINITY, NAN, 0.0f, -0.0f, 0.5f};
+    return next_random() % 8 == 0 ? others[next_random() % 8] : usual_number();
+}
+
+struct quantise_times {
+    double ours, plain;
+};
+
+/* Both on the same numbers, in ns a burst. */
+static struct quantise_times measure_quantise(float (*number)(void))
+{
+    static float numbers[NUMBERS], peaks[BURSTS], plain_peaks[BURSTS];
+    static uint8_t values[NUMBERS], plain_values[NUMBERS];
+    struct quantise_times best = {1e18, 1e18};
+    for (size_t k = 0; k < NUMBERS; k++)
+        numbers[k] = number();
+    for (int round = 0; round < ROUNDS; round++) {
+        MEASURE(best.ours, QUANTISE_REPEATS, quantise(numbers, values, peaks));
+        MEASURE(best.plain, QUANTISE_REPEATS, quantise_plain(numbers, plain_values, plain_peaks));
+    }
+    if (memcmp(values, plain_values, sizeof values) != 0 || memcmp(peaks, plain_peaks, sizeof peaks) != 0)
+        printf("note: the plain loop makes other values or peaks of these numbers\n");
+    return (struct quantise_times){best.ours / BURSTS, best.plain / BURSTS};
+}
+
+static double quantise_row(const char *name, float (*number)(void))
+{
+    struct quantise_times t = measure_quantise(number);
+    printf("%-24s %-9.1f %-11.1f %.2f\n", name, t.ours, t.plain, t.ours / t.plain);
+    return t.ours / t.plain;
+}
+
+static void quantise_table(void)
+{
+    printf("\nquantising, in ns a burst of 24 numbers; plain = a loop of roundf and a clamp with the NaN test and the peak, gcc -O2\n");
+    printf("numbers                  quantise  plain loop  ratio\n");
+    double usual = quantise_row("at 60 with noise", usual_number);
+    double mixed = quantise_row("with zeros, inf and NaN", mixed_number);
+    printf("quantise ratio usual: %.2f mixed: %.2f\n", usual, mixed);
+}
+
 int main(void)
 {
     static const size_t lengths[] = {20, 50, 100, 150, 200, 255};
@@ -220,5 +307,6 @@ int main(void)
     (void)ratio20, (void)ratio255;
     printf("ratio 20: - ratio 255: -\n");
 #endif
+    quantise_table();
     return 0;
 }

@@ -1,18 +1,20 @@
 /* gloamstrother.h: the uplink of telegram splitting (ETSI TS 103 357, TS-UNB, ULP rate) for C99 and C++.
  *
- * Four calls over the archive libgateway.a: a message to the bits of its bursts (gloam_uplink_build), soft values back to the message behind
- * the nearest string of all (gloam_uplink_recover), and the stored capture of what was heard, both ways (gloam_capture_write,
- * gloam_capture_read). Each is proved for every input: it ends, and answers what is said here and nothing else.
+ * Five calls over the archive libgateway.a: a message to the bits of its bursts (gloam_uplink_build), a receiver's numbers of one burst to
+ * soft values (gloam_burst_quantise), soft values back to the message behind the nearest string of all (gloam_uplink_recover), and the
+ * stored capture of what was heard, both ways (gloam_capture_write, gloam_capture_read). Each is proved for every input: it ends, and
+ * answers what is said here and nothing else. And the archive's version (gloam_version).
  *
- * What holds for all four:
+ * What holds for all five:
  *   - Buffers are lent for the call only. Nothing is kept, allocated or freed, and no byte outside them is read or written.
- *   - A buffer is a pointer and its size in bytes; (NULL, 0) is an empty one.
+ *   - A buffer is a pointer and its size in bytes, one of floats a pointer and the count of its floats; (NULL, 0) is an empty one.
  *   - Any number and any size may be given: what cannot be taken is refused by its number, the first that holds in the order stated with the
  *     call. A refusal writes nothing, and the other fields of the answer are 0.
  *   - refusal 0 means done; then the other fields hold, and what the call writes is written. Bytes beyond are kept.
  *   - There is no state: calls may be made from any number of threads at once, as long as no buffer that one of them writes is lent to another.
- *   - Stack: 16 kB are enough for gloam_uplink_build, 32 kB for gloam_uplink_recover, 4 kB for the captures.
- * What the caller owes, since no call can test it: each buffer is as long as its size says, and one that is written overlaps no other.
+ *   - Stack: 16 kB are enough for gloam_uplink_build, 32 kB for gloam_uplink_recover, 4 kB for gloam_burst_quantise and for the captures.
+ * What the caller owes, since no call can test it: each buffer is as long as its size or count says, one of floats is aligned as C wants
+ * a float to be, and one that is written overlaps no other.
  */
 #ifndef GLOAMSTROTHER_H
 #define GLOAMSTROTHER_H
@@ -23,6 +25,14 @@
 #ifdef __cplusplus
 extern "C" {
 #endif
+
+/* The version of this header: 100 for each minor version, so 200 for 0.2.0. It rises whenever this header changes. */
+#define GLOAM_VERSION 200
+
+/* gloam_version: the version of the archive. Compare it with GLOAM_VERSION once, when the program starts: where they differ, the program was
+ * compiled with the header of one version and linked with the archive of another, and no call may be trusted: fields and meanings may have
+ * moved. Install both anew from one version, and compile and link again. Archives before 0.2.0 have no gloam_version: linking fails. */
+uint32_t gloam_version(void);
 
 /* The least and the greatest length of a message, in bytes. */
 #define GLOAM_LEAST_LENGTH 20
@@ -42,6 +52,9 @@ extern "C" {
 #define GLOAM_MOST_VALUES_SIZE GLOAM_VALUES_SIZE(GLOAM_MOST_LENGTH)
 #define GLOAM_MOST_CAPTURE_SIZE GLOAM_CAPTURE_SIZE(GLOAM_MOST_LENGTH)
 
+/* A burst carries so many values: the numbers that gloam_burst_quantise takes, and the bytes that it writes. */
+#define GLOAM_BURST_VALUES 24
+
 /* The greatest cost that gloam_uplink_recover answers. */
 #define GLOAM_MOST_COST 795648
 
@@ -49,7 +62,7 @@ extern "C" {
 enum gloam_refusal {
     GLOAM_DONE = 0,
     GLOAM_REFUSED_LENGTH = 1,      /* the length is below 20 or above 255 */
-    GLOAM_REFUSED_SIZE = 2,        /* message, marks or values are not of the exact size for the length */
+    GLOAM_REFUSED_SIZE = 2,        /* message, marks, values or numbers are not of the exact size */
     GLOAM_REFUSED_ROOM = 3,        /* an output buffer is too short */
     GLOAM_REFUSED_MODE = 4,        /* the mode is above 3 */
     GLOAM_REFUSED_MARK = 5,        /* a mark is neither 0 nor 1 */
@@ -58,6 +71,13 @@ enum gloam_refusal {
     GLOAM_REFUSED_PSI = 8,         /* the PSI of the nearest string is not the told length */
     GLOAM_REFUSED_PAYLOAD_CRC = 9, /* the payload CRC of the nearest string is wrong */
     GLOAM_REFUSED_CAPTURE = 10     /* the capture is malformed */
+};
+
+/* What gloam_burst_quantise finds in the numbers of a burst. */
+enum gloam_finding {
+    GLOAM_HEARD = 1,  /* no NaN, and a number that is not zero: the peak holds */
+    GLOAM_SILENT = 2, /* all 24 are plus or minus zero */
+    GLOAM_FAULTY = 3  /* a NaN is among them */
 };
 
 /* What writing answers: refusal 0, and size bytes are written; or the refusal, and size is 0. */
@@ -80,6 +100,13 @@ typedef struct {
     uint32_t cost;
 } gloam_recovered;
 
+/* What quantising answers: refusal 0, the finding and, where that is GLOAM_HEARD, the peak; or the refusal, and finding is 0. Else peak is +0. */
+typedef struct {
+    uint32_t refusal;
+    uint32_t finding;
+    float peak;
+} gloam_quantised;
+
 /* gloam_uplink_build: the frame of one message.
  *
  *   length   20 to 255
@@ -93,6 +120,27 @@ typedef struct {
 gloam_written gloam_uplink_build(uint64_t length, uint64_t mode,
                                  const uint8_t *message, size_t message_size,
                                  uint8_t *frame, size_t frame_size);
+
+/* gloam_burst_quantise: the numbers of one received burst as values, and what is found in them.
+ *
+ *   numbers  in   exactly GLOAM_BURST_VALUES = 24 floats (IEEE 754, single precision) of any value at all, aligned as C wants them and only
+ *                 read; numbers_count counts floats, not bytes
+ *   values   out  at least 24 bytes; any further ones are kept
+ *
+ * refusal 0: 24 bytes of values are written, byte p for number p, in two's complement: the nearest whole number, halves away from zero,
+ * held at 127 and -127 (so never -128); an infinity is 127 or -127, a NaN 0. finding is
+ *   GLOAM_FAULTY  where a NaN is among the 24, also beside infinities; the other values are written as ever, and peak is +0
+ *   GLOAM_SILENT  where all 24 are plus or minus zero; peak is +0
+ *   GLOAM_HEARD   everywhere else; peak is the greatest magnitude of the 24, positive, and infinite where one of them is
+ * The numbers are judged and not their bytes: where all magnitudes are below one half, all bytes are 0, and yet the burst is heard, with its
+ * peak, if one number is not zero, be it subnormal. Else the first refusal that holds, in this order:
+ *   2 numbers_count   3 values_size
+ *
+ * The 24 bytes are those of one sub-packet among the values of gloam_uplink_recover and gloam_capture_write, in their order: for
+ * sub-packet s give values + 24 * s. Its mark is the caller's to set. A heard burst is marked 1. For a silent or a faulty one the
+ * receiver decides: marked 1, its zeros say nothing, and the other values of a faulty one count; marked 0, nothing of it counts. */
+gloam_quantised gloam_burst_quantise(const float *numbers, size_t numbers_count,
+                                     uint8_t *values, size_t values_size);
 
 /* gloam_uplink_recover: the message of one received frame.
  *
@@ -148,7 +196,7 @@ static inline const char *gloam_refusal_text(uint32_t refusal)
     switch (refusal) {
     case GLOAM_DONE: return "done";
     case GLOAM_REFUSED_LENGTH: return "the length is below 20 or above 255";
-    case GLOAM_REFUSED_SIZE: return "message, marks or values are not of the exact size for the length";
+    case GLOAM_REFUSED_SIZE: return "message, marks, values or numbers are not of the exact size";
     case GLOAM_REFUSED_ROOM: return "an output buffer is too short";
     case GLOAM_REFUSED_MODE: return "the mode is above 3";
     case GLOAM_REFUSED_MARK: return "a mark is neither 0 nor 1";

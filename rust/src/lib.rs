@@ -1,12 +1,13 @@
 //! The uplink of telegram splitting (ETSI TS 103 357, TS-UNB, ULP rate) over the proved archive
 //! `libgateway.a`.
 //!
-//! Four calls: [`build`] makes the bits of the bursts of a message, [`recover`] finds the message
-//! behind the nearest string of all from the soft values that were heard, and [`write_capture`] and
+//! Five calls: [`build`] makes the bits of the bursts of a message, [`quantise`] makes the soft
+//! values of one burst from the numbers that a receiver gives, [`recover`] finds the message behind
+//! the nearest string of all from the soft values that were heard, and [`write_capture`] and
 //! [`read_capture`] store what was heard and bring it back. Each takes any numbers and any sizes,
 //! and answers done, or the first [`Refusal`] that holds in the order stated with it. A refusal
 //! writes nothing. Nothing is allocated and nothing is kept, so calls may be made from any number
-//! of threads.
+//! of threads. [`archive_version`] tells whether the archive is the one that this crate is for.
 //!
 //! ```
 //! use gloamstrother::{build, frame_size, marks_size, recover};
@@ -39,10 +40,15 @@
 
 #![warn(missing_docs)]
 
+mod finding;
 pub mod raw;
 mod refusal;
 
+pub use finding::Finding;
 pub use refusal::Refusal;
+
+/// The version of the calls that this crate was written for: the header's `GLOAM_VERSION`.
+pub const VERSION: u32 = 200;
 
 /// The least length of a message, in bytes.
 pub const LEAST_LENGTH: u64 = 20;
@@ -50,6 +56,8 @@ pub const LEAST_LENGTH: u64 = 20;
 pub const MOST_LENGTH: u64 = 255;
 /// The greatest cost that [`recover`] answers.
 pub const MOST_COST: u32 = 795_648;
+/// The numbers of one burst, and its values.
+pub const BURST_VALUES: usize = 24;
 
 /// Room enough for the message of every length.
 pub const MOST_MESSAGE_SIZE: usize = MOST_LENGTH as usize;
@@ -93,6 +101,13 @@ pub struct Recovered {
     pub cost: u32,
 }
 
+/// The version of the archive that is linked. Where it is not [`VERSION`], the archive is of another
+/// release than this crate, and its calls may differ from what is said here.
+pub fn archive_version() -> u32 {
+    // SAFETY: the call takes nothing.
+    unsafe { raw::gloam_version() }
+}
+
 /// Writes the frame of a message: sub-packets in order, 36 symbols each, every byte 0 or 1.
 /// Symbols 12 to 23 of each are its pilot. Answers how many bytes are written, which is
 /// [`frame_size`] of the length; further bytes of `frame` are kept.
@@ -109,6 +124,43 @@ pub fn build(length: u64, mode: u64, message: &[u8], frame: &mut [u8]) -> Result
         raw::gloam_uplink_build(length, mode, from, message.len(), to, frame.len())
     };
     done(answer.refusal, answer.size as usize)
+}
+
+/// Writes the 24 values of one burst, each the whole number nearest to its number: halves go away
+/// from zero, what is greater than 127 or less than -127 is held there, an infinity too, and a NaN
+/// becomes 0. No value is -128. They are the values of one sub-packet as [`recover`] takes them;
+/// further ones are kept.
+///
+/// Answers what the burst is: [`Finding::Faulty`] where a NaN is among the numbers, whatever the
+/// others are; [`Finding::Silent`] where all of them are plus or minus zero; else
+/// [`Finding::Heard`] with the greatest magnitude. The numbers are judged, not the values: a burst
+/// whose numbers are all too small for a value other than 0 is heard.
+///
+/// ```
+/// use gloamstrother::{quantise, Finding, BURST_VALUES};
+///
+/// let mut numbers = [0.25; BURST_VALUES];
+/// numbers[..4].copy_from_slice(&[2.5, -2.5, 1e9, -130.0]);
+/// let mut values = [0; BURST_VALUES];
+/// assert_eq!(quantise(&numbers, &mut values)?, Finding::Heard { peak: 1e9 });
+/// assert_eq!(values[..5], [3, -3, 127, -127, 0]);
+///
+/// numbers[0] = f32::NAN;
+/// assert_eq!(quantise(&numbers, &mut values)?, Finding::Faulty);
+/// assert_eq!(values[..5], [0, -3, 127, -127, 0]);
+/// # Ok::<(), gloamstrother::Refusal>(())
+/// ```
+///
+/// # Errors
+/// The first that holds of: [`Refusal::Size`], where there are not just [`BURST_VALUES`] numbers;
+/// [`Refusal::Room`], where `values` is shorter than that.
+pub fn quantise(numbers: &[f32], values: &mut [i8]) -> Result<Finding, Refusal> {
+    // SAFETY: both buffers are as long as their sizes say, and `values` is borrowed alone.
+    let answer = unsafe {
+        let (from, to) = (numbers.as_ptr(), values.as_mut_ptr().cast());
+        raw::gloam_burst_quantise(from, numbers.len(), to, values.len())
+    };
+    done(answer.refusal, Finding::from_number(answer.finding, answer.peak))
 }
 
 /// Writes the message behind the nearest string: of all strings of payload bits of the told length

@@ -1,4 +1,4 @@
-//! The four calls as C has them, for a caller who holds pointers already.
+//! The calls as C has them, for a caller who holds pointers already.
 //!
 //! include/gloamstrother.h says what each takes and answers. What it leaves to the caller is left
 //! here too: a buffer is as long as its size says, and one that is written overlaps no other.
@@ -37,7 +37,22 @@ pub struct Recovered {
     pub cost: u32,
 }
 
+/// What quantising answers: refusal 0 with the finding and its peak, or the refusal and two zeros.
+#[repr(C)]
+#[derive(Clone, Copy, Debug, PartialEq)]
+pub struct Quantised {
+    /// 0, or the number of the refusal.
+    pub refusal: u32,
+    /// 1 heard, 2 silent, 3 faulty.
+    pub finding: u32,
+    /// The greatest magnitude where the burst is heard, else +0.
+    pub peak: f32,
+}
+
 extern "C" {
+    /// See [`crate::archive_version`].
+    pub fn gloam_version() -> u32;
+
     /// See [`crate::build`].
     pub fn gloam_uplink_build(
         length: u64,
@@ -79,4 +94,12 @@ extern "C" {
         values: *mut u8,
         values_size: usize,
     ) -> Read;
+
+    /// See [`crate::quantise`]. The values are bytes in two's complement.
+    pub fn gloam_burst_quantise(
+        numbers: *const f32,
+        numbers_count: usize,
+        values: *mut u8,
+        values_size: usize,
+    ) -> Quantised;
 }

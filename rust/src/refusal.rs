@@ -11,7 +11,7 @@ use std::fmt;
 pub enum Refusal {
     /// 1: the length is below 20 or above 255.
     Length,
-    /// 2: message, marks or values are not of the exact size for the length.
+    /// 2: message, marks, values or numbers are not of the exact size.
     Size,
     /// 3: an output buffer is too short.
     Room,
@@ -73,7 +73,7 @@ impl Refusal {
     const fn sentence(self) -> Option<&'static str> {
         Some(match self {
             Refusal::Length => "the length is below 20 or above 255",
-            Refusal::Size => "message, marks or values are not of the exact size for the length",
+            Refusal::Size => "message, marks, values or numbers are not of the exact size",
             Refusal::Room => "an output buffer is too short",
             Refusal::Mode => "the mode is above 3",
             Refusal::Mark => "a mark is neither 0 nor 1",

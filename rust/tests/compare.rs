@@ -8,39 +8,45 @@
 mod as_c;
 #[path = "compare/damage.rs"]
 mod damage;
+#[path = "shared/ending.rs"]
+mod ending;
 #[path = "compare/judge.rs"]
 mod judge;
+#[path = "shared/judged.rs"]
+mod judged;
 #[path = "compare/kinds.rs"]
 mod kinds;
-#[path = "compare/lent.rs"]
+#[path = "shared/lent.rs"]
 mod lent;
-#[path = "compare/options.rs"]
+#[path = "shared/options.rs"]
 mod options;
 #[path = "compare/radio.rs"]
 mod radio;
-#[path = "compare/random.rs"]
+#[path = "shared/random.rs"]
 mod random;
+#[path = "shared/table.rs"]
+mod table;
 #[path = "compare/tally.rs"]
 mod tally;
 #[path = "compare/ties.rs"]
 mod ties;
+#[path = "shared/workers.rs"]
+mod workers;
 
-use std::io::{stderr, IsTerminal, Write};
 use std::panic::catch_unwind;
 use std::process::ExitCode;
-use std::sync::atomic::{AtomicU64, Ordering};
-use std::thread;
-use std::time::{Duration, Instant};
+use std::time::Instant;
 
+use ending::{ended, Failures};
 use judge::{judge, Call};
 use kinds::{Case, Kind};
 use options::Options;
-use random::case_seed;
 use reference::Rule;
 use tally::Tally;
+use workers::share_out;
 
-/// Failed cases that are printed in full.
-const SHOWN: u64 = 10;
+/// Cases of a run that asks for no number.
+const CASES: u64 = 50_000;
 
 /// From so many cases on, every kind, every length and real ties must have occurred.
 const ENOUGH: u64 = 10_000;
@@ -49,14 +55,7 @@ const ENOUGH: u64 = 10_000;
 const MANY: u64 = 100_000;
 
 fn main() -> ExitCode {
-    match Options::read(std::env::args().skip(1)) {
-        Ok(Some(options)) => run(&options),
-        Ok(None) => ExitCode::SUCCESS,
-        Err(usage) => {
-            eprintln!("{usage}");
-            ExitCode::from(2)
-        }
-    }
+    options::run("compare", CASES, run)
 }
 
 /// Runs all cases and prints what was seen.
@@ -79,12 +78,7 @@ fn run(options: &Options) -> ExitCode {
     }
     let passed = tally.cases - tally.failed;
     tally.failed += lacking.len() as u64;
-    println!("{passed} passed, {} failed", tally.failed);
-    if tally.failed == 0 {
-        ExitCode::SUCCESS
-    } else {
-        ExitCode::FAILURE
-    }
+    ended(passed, tally.failed)
 }
 
 /// What a run of many cases should have shown and did not.
@@ -104,46 +98,34 @@ fn lacking(tally: &Tally) -> Vec<String> {
     reasons
 }
 
-/// Shares the cases out among all processors, and tells progress.
+/// Shares the cases out among all processors, and tells progress where there are many.
 fn all_cases(options: &Options) -> Tally {
-    let next = AtomicU64::new(0);
-    let failures = AtomicU64::new(0);
-    let threads = thread::available_parallelism().map_or(1, |count| count.get());
-    thread::scope(|scope| {
-        let work = || some_cases(options, &next, &failures);
-        let workers: Vec<_> = (0..threads).map(|_| scope.spawn(work)).collect();
-        if options.cases >= MANY {
-            tell_progress(options.cases, &next, || {
-                workers.iter().all(|worker| worker.is_finished())
-            });
-        }
-        let mut tally = Tally::new();
-        for worker in workers {
-            tally.add(&worker.join().expect("a thread's cases are caught one by one"));
-        }
-        tally
-    })
+    let failures = Failures::default();
+    let said = |taken: u64| format!("{taken} of {} cases", options.cases);
+    let said = (options.cases >= MANY).then_some(said);
+    let tallies = share_out(options.cases, said, |indexes| some_cases(options, indexes, &failures));
+    let mut tally = Tally::new();
+    tallies.iter().for_each(|part| tally.add(part));
+    tally
 }
 
-/// Takes cases until none is left.
-fn some_cases(options: &Options, next: &AtomicU64, failures: &AtomicU64) -> Tally {
+/// Runs the cases of these indexes.
+fn some_cases(
+    options: &Options,
+    indexes: &mut dyn Iterator<Item = u64>,
+    failures: &Failures,
+) -> Tally {
     let mut tally = Tally::new();
-    loop {
-        let index = next.fetch_add(1, Ordering::Relaxed);
-        if index >= options.cases {
-            return tally;
-        }
-        let seed = match options.cases {
-            1 => options.seed,
-            _ => case_seed(options.seed, index),
-        };
+    for index in indexes {
+        let seed = options.seed_of(index);
         let differences = one_case(seed, &mut tally);
-        if !differences.is_empty() && failures.fetch_add(1, Ordering::Relaxed) < SHOWN {
+        if !differences.is_empty() {
             let shown = differences.join("\n  ");
             let again = format!("again: make compare SEED={seed:#018x} CASES=1");
-            println!("FAILED: seed {seed:#018x}\n  {shown}\n  {again}");
+            failures.show(|| format!("seed {seed:#018x}\n  {shown}\n  {again}"));
         }
     }
+    tally
 }
 
 /// Runs one case and counts it; answers its kind and what differed, or nothing.
@@ -181,21 +163,4 @@ fn tie_of(case: &Case, expected: &Result<Vec<u32>, u32>) -> Option<bool> {
     let cost = expected.as_ref().ok().map(|numbers| numbers[2]);
     let good = case.kind != Kind::TieOfFrames || strings.iter().all(|string| ties::passes(string));
     Some(good && ties::really_tied(&case.call, strings, cost))
-}
-
-/// Prints how far the run is every few seconds, until it is finished.
-fn tell_progress(cases: u64, next: &AtomicU64, finished: impl Fn() -> bool) {
-    let (end, every) = if stderr().is_terminal() { ("\r", 2) } else { ("\n", 10) };
-    let mut told = Instant::now();
-    while !finished() {
-        thread::sleep(Duration::from_millis(100));
-        if told.elapsed() >= Duration::from_secs(every) {
-            told = Instant::now();
-            eprint!("{} of {cases} cases{end}", next.load(Ordering::Relaxed).min(cases));
-            let _ = stderr().flush();
-        }
-    }
-    if stderr().is_terminal() {
-        eprintln!();
-    }
 }

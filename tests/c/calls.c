@@ -15,6 +15,12 @@ void lent_make(struct lent *lent)
     guarded_make(&lent->marks, "marks", GLOAM_MOST_MARKS_SIZE + SPARE);
     guarded_make(&lent->values, "values", GLOAM_MOST_VALUES_SIZE + SPARE);
     guarded_make(&lent->capture, "capture", GLOAM_MOST_CAPTURE_SIZE + SPARE);
+    guarded_make(&lent->numbers, "numbers", sizeof(float) * (GLOAM_BURST_VALUES + SPARE));
+}
+
+void lent_lay_numbers(struct lent *lent, const uint32_t *bits, size_t count, enum guarded_layout layout)
+{
+    guarded_lay_copy(&lent->numbers, (const uint8_t *)bits, sizeof *bits * count, layout);
 }
 
 void lent_empty_as_null(struct guarded *buffer)
@@ -97,7 +103,40 @@ gloam_read call_capture_read(struct lent *lent)
     return answer;
 }
 
+/* What holds for every answer of quantising: a finding and 24 bytes, none of them -128; or zeros. */
+static void check_quantised(gloam_quantised answer, const uint8_t *values)
+{
+    bool done = answer.refusal == GLOAM_DONE;
+    CHECK_TRUE("finding is 1 to 3, and 0 where refused", done ? answer.finding >= 1 && answer.finding <= 3 : answer.finding == 0);
+    if (answer.finding != GLOAM_HEARD)
+        CHECK_FLOAT("peak where the burst is not heard", 0.0f, answer.peak);
+    for (size_t k = 0; done && k < GLOAM_BURST_VALUES; k++)
+        CHECK_TRUE("a value is not -128", values[k] != 0x80);
+}
+
+gloam_quantised call_quantise(struct lent *lent)
+{
+    struct guarded *numbers = &lent->numbers, *values = &lent->values;
+    guarded_lend_in(numbers);
+    guarded_lend_out(values);
+    gloam_quantised answer = gloam_burst_quantise((const float *)(void *)numbers->bytes, numbers->size / sizeof(float), values->bytes, values->size);
+    kept(numbers, 0);
+    kept(values, answer.refusal == GLOAM_DONE ? GLOAM_BURST_VALUES : 0);
+    check_quantised(answer, values->bytes);
+    return answer;
+}
+
 bool called_short(int argc, char **argv)
 {
     return argc > 1 && strcmp(argv[1], "--short") == 0;
+}
+
+enum guarded_layout first_layout(bool is_short)
+{
+    return is_short ? GUARDED_MALLOC : GUARDED_PAGE_AFTER;
+}
+
+enum guarded_layout last_layout(bool is_short)
+{
+    return is_short ? GUARDED_MALLOC : GUARDED_PAGE_BEFORE;
 }

@@ -89,6 +89,22 @@ bool check_number(const char *file, int line, const char *what, uint64_t expecte
     return expected == seen;
 }
 
+static uint32_t bits_of(float number)
+{
+    uint32_t bits;
+    memcpy(&bits, &number, sizeof bits);
+    return bits;
+}
+
+bool check_float(const char *file, int line, const char *what, float expected, float seen)
+{
+    bool good = bits_of(expected) == bits_of(seen);
+    if (failed_and_shown(file, line, good))
+        printf("%s: expected %a (bits %08" PRIx32 "), seen %a (bits %08" PRIx32 ")\n", what, (double)expected, bits_of(expected), (double)seen,
+               bits_of(seen));
+    return good;
+}
+
 bool check_bytes(const char *file, int line, const char *what, const uint8_t *expected, const uint8_t *seen, size_t size)
 {
     size_t at = 0;

@@ -23,9 +23,11 @@ int check_end(void);
 void check_stop(const char *reason);
 
 bool check_number(const char *file, int line, const char *what, uint64_t expected, uint64_t seen);
+bool check_float(const char *file, int line, const char *what, float expected, float seen);
 bool check_bytes(const char *file, int line, const char *what, const uint8_t *expected, const uint8_t *seen, size_t size);
 
 #define CHECK_NUMBER(what, expected, seen) check_number(__FILE__, __LINE__, what, expected, seen)
+#define CHECK_FLOAT(what, expected, seen) check_float(__FILE__, __LINE__, what, expected, seen) /* bit by bit: -0 is not +0 */
 #define CHECK_BYTES(what, expected, seen, size) check_bytes(__FILE__, __LINE__, what, expected, seen, size)
 #define CHECK_TRUE(what, seen) check_number(__FILE__, __LINE__, what, 1, (seen) ? 1 : 0)
 

@@ -193,11 +193,7 @@ int main(int argc, char **argv)
     is_short = called_short(argc, argv);
     guarded_watch();
     lent_make(&lent);
-    if (is_short) {
-        every_operation(GUARDED_MALLOC);
-    } else {
-        every_operation(GUARDED_PAGE_AFTER);
-        every_operation(GUARDED_PAGE_BEFORE);
-    }
+    for (enum guarded_layout layout = first_layout(is_short); layout <= last_layout(is_short); layout++)
+        every_operation(layout);
     return check_end();
 }

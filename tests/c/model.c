@@ -1,5 +1,6 @@
 #include "model.h"
 
+#include <stdbool.h>
 #include <string.h>
 
 static void put_bits(uint8_t *bits, unsigned width, unsigned number)
@@ -125,6 +126,33 @@ void model_capture(size_t length, const uint8_t *marks, const uint8_t *values, u
     capture = put_field(capture, 2, marks, length + 4);
     for (size_t s = 0; s < length + 4; s++)
         capture = put_field(capture, 3, values + 24 * s, 24);
+}
+
+/* How many of the halves 0.5, 1.5, .. 126.5 a magnitude reaches: that is the nearest whole number, halves upwards, held at 127. Each half is a
+ * double, so is each float, and comparing two doubles rounds nothing: so it is exact for every float. An infinity reaches all of
+ * them, a NaN none. */
+static int halves_reached(double magnitude)
+{
+    int reached = 0;
+    while (reached < 127 && magnitude >= reached + 0.5)
+        reached++;
+    return reached;
+}
+
+void model_quantise(const float *numbers, struct model_burst *burst)
+{
+    bool faulty = false;
+    burst->peak = 0;
+    for (size_t k = 0; k < 24; k++) {
+        float number = numbers[k], magnitude = number < 0 ? -number : number;
+        int reached = halves_reached(magnitude);
+        burst->values[k] = (uint8_t)(number < 0 ? -reached : reached);
+        burst->peak = magnitude > burst->peak ? magnitude : burst->peak;
+        faulty = faulty || number != number;
+    }
+    burst->finding = faulty ? 3 : burst->peak > 0 ? 1 : 2;
+    if (faulty)
+        burst->peak = 0;
 }
 
 uint32_t model_random(uint64_t *state)

@@ -1,5 +1,6 @@
 /* model.h: the sending side of the uplink once more, written from the standard as docs/STANDARD.md has it and sharing nothing with the crates:
- * payload bits, whitening, code, places. What a frame must be, and frames whose checks are wrong on purpose. It decodes nothing. */
+ * payload bits, whitening, code, places. What a frame must be, and frames whose checks are wrong on purpose. It decodes nothing. And what
+ * becomes of a burst's numbers, by comparing floats alone. */
 #ifndef MODEL_H
 #define MODEL_H
 
@@ -28,6 +29,16 @@ void model_heard(const uint8_t *frame, size_t length, int strength, uint8_t *val
 
 /* The stored capture of docs/CAPTURE.md: 119 + 28 length bytes. */
 void model_capture(size_t length, const uint8_t *marks, const uint8_t *values, uint8_t *capture);
+
+/* What quantising must make of a burst: its 24 values, 1 heard, 2 silent or 3 faulty, and the peak, +0 unless it is heard. */
+struct model_burst {
+    uint8_t values[24];
+    uint32_t finding;
+    float peak;
+};
+
+/* Of 24 numbers. */
+void model_quantise(const float *numbers, struct model_burst *burst);
 
 /* A stream of numbers that is the same in every run; the state must not be 0. */
 uint32_t model_random(uint64_t *state);

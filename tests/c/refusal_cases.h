@@ -206,4 +206,38 @@ static const struct read_case read_cases[] = {
     {{10, "one byte more, a mark wrong, no room"}, 20, 680, 0, 0, {{7, 2}}},
 };
 
+/* Quantising: so many numbers, and a room in bytes. Each byte of the numbers is `fill`, so that all of them are one of these. */
+enum { NUMBERS_48_5 = 0x42, NUMBERS_ZERO = 0x00, NUMBERS_NAN = 0xFF };
+
+struct quantise_case {
+    struct expected expected;
+    size_t numbers_count, room;
+    uint8_t fill;
+};
+
+static const struct quantise_case quantise_cases[] = {
+    {{0, "exact room"}, 24, 24, NUMBERS_48_5},
+    {{0, "exact room, silent"}, 24, 24, NUMBERS_ZERO},
+    {{0, "exact room, faulty"}, 24, 24, NUMBERS_NAN},
+    {{0, "one byte of room to spare"}, 24, 25, NUMBERS_48_5},
+    {{0, "room for the values of a whole frame"}, 24, 6216, NUMBERS_48_5},
+    {{2, "one number short"}, 23, 24, NUMBERS_48_5},
+    {{2, "one number more"}, 25, 24, NUMBERS_48_5},
+    {{2, "no numbers"}, 0, 24, NUMBERS_48_5},
+    {{2, "a single number"}, 1, 24, NUMBERS_48_5},
+    {{2, "6 numbers, which are 24 bytes"}, 6, 24, NUMBERS_48_5},
+    {{2, "the numbers of two bursts"}, 48, 48, NUMBERS_48_5},
+    {{2, "one number short, silent"}, 23, 24, NUMBERS_ZERO},
+    {{2, "one number more, faulty"}, 25, 24, NUMBERS_NAN},
+    {{2, "one number short, and room for just that"}, 23, 23, NUMBERS_48_5},
+    {{2, "one number more, and room one byte short"}, 25, 23, NUMBERS_48_5},
+    {{2, "one number short, and no room"}, 23, 0, NUMBERS_48_5},
+    {{2, "neither numbers nor room"}, 0, 0, NUMBERS_48_5},
+    {{3, "room one byte short"}, 24, 23, NUMBERS_48_5},
+    {{3, "room for 6 bytes"}, 24, 6, NUMBERS_48_5},
+    {{3, "no room"}, 24, 0, NUMBERS_48_5},
+    {{3, "room one byte short, silent"}, 24, 23, NUMBERS_ZERO},
+    {{3, "room one byte short, faulty"}, 24, 23, NUMBERS_NAN},
+};
+
 #endif

@@ -73,6 +73,18 @@ static uint32_t run_read(size_t at, enum guarded_layout layout, bool null)
     return call_capture_read(&lent).refusal;
 }
 
+static uint32_t run_quantise(size_t at, enum guarded_layout layout, bool null)
+{
+    const struct quantise_case *c = &quantise_cases[at];
+    guarded_lay(&lent.numbers, sizeof(float) * c->numbers_count, layout, c->fill);
+    guarded_lay(&lent.values, c->room, layout, 0xEE);
+    if (null) {
+        lent_empty_as_null(&lent.numbers);
+        lent_empty_as_null(&lent.values);
+    }
+    return call_quantise(&lent).refusal;
+}
+
 struct operation {
     const char *name;
     uint32_t (*run)(size_t at, enum guarded_layout layout, bool null);
@@ -85,6 +97,7 @@ static const struct operation operations[] = {
     {"recover", run_recover, &recover_cases[0].expected, COUNT(recover_cases), sizeof *recover_cases},
     {"capture writing", run_write, &write_cases[0].expected, COUNT(write_cases), sizeof *write_cases},
     {"capture reading", run_read, &read_cases[0].expected, COUNT(read_cases), sizeof *read_cases},
+    {"quantising", run_quantise, &quantise_cases[0].expected, COUNT(quantise_cases), sizeof *quantise_cases},
 };
 
 static const struct expected *expected_at(const struct operation *operation, size_t at)
@@ -96,8 +109,7 @@ static const struct expected *expected_at(const struct operation *operation, siz
 static void run_case(const struct operation *operation, size_t at)
 {
     const struct expected *expected = expected_at(operation, at);
-    enum guarded_layout from = is_short ? GUARDED_MALLOC : GUARDED_PAGE_AFTER, to = is_short ? GUARDED_MALLOC : GUARDED_PAGE_BEFORE;
-    for (enum guarded_layout layout = from; layout <= to; layout++)
+    for (enum guarded_layout layout = first_layout(is_short); layout <= last_layout(is_short); layout++)
         for (int null = 0; null <= 1; null++) {
             check_case("%s, %s%s", expected->name, guarded_layout_name(layout), null ? ", NULL where empty" : "");
             CHECK_NUMBER("refusal", expected->number, operation->run(at, layout, null != 0));

@@ -6,6 +6,7 @@
 #include "guarded.h"
 #include "heard.h"
 
+#include <math.h>
 #include <pthread.h>
 #include <string.h>
 
@@ -14,6 +15,7 @@ enum { STACK = 65536, ROUNDS = 4, KEPT_CLEAR = 128 };
 static struct heard heard;
 static uint8_t message[GLOAM_MOST_MESSAGE_SIZE], frame[GLOAM_MOST_FRAME_SIZE], capture[GLOAM_MOST_CAPTURE_SIZE];
 static uint8_t marks[GLOAM_MOST_MARKS_SIZE], values[GLOAM_MOST_VALUES_SIZE];
+static float numbers[GLOAM_BURST_VALUES];
 
 static uint32_t build(size_t length)
 {
@@ -33,6 +35,18 @@ static uint32_t capture_write(size_t length)
 static uint32_t capture_read(size_t length)
 {
     return gloam_capture_read(capture, GLOAM_CAPTURE_SIZE(length), marks, sizeof marks, values, sizeof values).refusal;
+}
+
+/* Every burst of a frame: zeros, then with a number more each time, up to a NaN and an infinity. */
+static uint32_t quantise(size_t length)
+{
+    uint32_t refusal = 0;
+    memset(numbers, 0, sizeof numbers);
+    for (size_t s = 0; s < length + 4; s++) {
+        refusal |= gloam_burst_quantise(numbers, GLOAM_BURST_VALUES, values + 24 * s, sizeof values - 24 * s).refusal;
+        numbers[s % GLOAM_BURST_VALUES] = s < length ? (float)s - 60.5f : s % 2 == 0 ? NAN : INFINITY;
+    }
+    return refusal;
 }
 
 /* One call, what the header says is enough for it, and what it answered and used. */
@@ -106,6 +120,7 @@ int main(void)
         measure((struct measured){.name = "recover", .call = recover, .length = lengths[k], .enough = 32768}, &stack);
         measure((struct measured){.name = "capture writing", .call = capture_write, .length = lengths[k], .enough = 4096}, &stack);
         measure((struct measured){.name = "capture reading", .call = capture_read, .length = lengths[k], .enough = 4096}, &stack);
+        measure((struct measured){.name = "quantising", .call = quantise, .length = lengths[k], .enough = 4096}, &stack);
     }
     return check_end();
 }

@@ -1,5 +1,5 @@
 /* sweeps.c: refusals over whole ranges: every size of every buffer around the right one, every length, every mark, every byte of a capture's form,
- * and sizes of 2^32 and more, whose low bits alone look right. */
+ * every count of numbers against every room, and sizes and counts of 2^32 and more, whose low bits alone look right. */
 #include "calls.h"
 #include "check.h"
 #include "heard.h"
@@ -8,7 +8,7 @@
 #include <string.h>
 #include <sys/mman.h>
 
-enum { LENGTH = 20, MESSAGE = 20, FRAME = 864, MARKS = 24, VALUES = 576, CAPTURE = 679 };
+enum { LENGTH = 20, MESSAGE = 20, FRAME = 864, MARKS = 24, VALUES = 576, CAPTURE = 679, BURST = 24 };
 
 static struct lent lent;
 static struct heard heard;
@@ -100,6 +100,21 @@ static void every_size_of_capture_read(void)
         CHECK_NUMBER("refusal", room < VALUES ? 3 : 0, capture_read(CAPTURE, MARKS, room));
 }
 
+static uint32_t quantise(size_t count, size_t room)
+{
+    check_case("%zu numbers, values of %zu", count, room);
+    guarded_lay(&lent.numbers, sizeof(float) * count, layout, 0x42);
+    guarded_lay(&lent.values, room, layout, 0xEE);
+    return call_quantise(&lent).refusal;
+}
+
+static void every_size_of_quantise(void)
+{
+    for (size_t count = 0; count <= 50; count = next_size(count, BURST))
+        for (size_t room = 0; room <= 50; room = next_size(room, BURST))
+            CHECK_NUMBER("refusal", count != BURST ? 2 : room < BURST ? 3 : 0, quantise(count, room));
+}
+
 /* Buffers are right for length 20 alone: another length that can be is refused for them, one that cannot be for itself. */
 static void one_length(uint64_t length)
 {
@@ -163,10 +178,18 @@ static void every_byte_of_form(void)
 
 #define MUCH UINT64_C(0x100000000)
 
+/* A count of numbers that is not 24, with room enough. */
+static uint32_t quantise_much(const uint8_t *numbers, size_t count)
+{
+    uint8_t values[BURST];
+    return gloam_burst_quantise((const float *)(const void *)numbers, count, values, BURST).refusal;
+}
+
 /* Real memory of more than 2^32 bytes, hardly any of it ever touched. Its start is right for length 20. */
 static void check_much(uint8_t *much)
 {
     uint8_t frame[FRAME], other[VALUES] = {0}, few[MARKS] = {0};
+    float numbers[BURST] = {1};
     check_case("sizes that are right in their low 32 bits");
     CHECK_NUMBER("build, message", 2, gloam_uplink_build(LENGTH, 0, much, MUCH + MESSAGE, frame, FRAME).refusal);
     CHECK_NUMBER("recover, marks", 2, gloam_uplink_recover(LENGTH, much, MUCH + MARKS, heard.values, VALUES, frame, FRAME).refusal);
@@ -175,32 +198,40 @@ static void check_much(uint8_t *much)
     CHECK_NUMBER("capture writing, values", 2, gloam_capture_write(LENGTH, heard.marks, MARKS, much, MUCH + VALUES, frame, FRAME).refusal);
     memcpy(much, capture, CAPTURE);
     CHECK_NUMBER("capture reading, capture", 10, gloam_capture_read(much, MUCH + CAPTURE, few, MARKS, other, VALUES).refusal);
+    CHECK_NUMBER("quantising, bytes of the numbers", 2, quantise_much(much, MUCH / sizeof(float) + BURST));
     check_case("rooms that are too short in their low 32 bits alone");
     CHECK_NUMBER("build, frame", FRAME, gloam_uplink_build(LENGTH, 0, message, MESSAGE, much, MUCH + 1).size);
     CHECK_NUMBER("recover, message", LENGTH, gloam_uplink_recover(LENGTH, heard.marks, MARKS, heard.values, VALUES, much, MUCH + 1).length);
     CHECK_NUMBER("capture writing, capture", CAPTURE, gloam_capture_write(LENGTH, heard.marks, MARKS, heard.values, VALUES, much, MUCH + 1).size);
     CHECK_NUMBER("capture reading, marks", LENGTH, gloam_capture_read(capture, CAPTURE, much, MUCH + 1, other, VALUES).length);
     CHECK_NUMBER("capture reading, values", LENGTH, gloam_capture_read(capture, CAPTURE, few, MARKS, much, MUCH + 1).length);
+    CHECK_NUMBER("quantising, values", GLOAM_HEARD, gloam_burst_quantise(numbers, BURST, much, MUCH + 1).finding);
 }
 
-static void sizes_of_2_to_the_32(void)
+static void check_many_numbers(uint8_t *much)
 {
-    size_t size = MUCH + 4096;
+    check_case("counts that are right in their low 32 bits");
+    CHECK_NUMBER("quantising, numbers", 2, quantise_much(much, MUCH + BURST));
+}
+
+static void with_much(const char *name, uint64_t bytes, void (*check)(uint8_t *much))
+{
+    size_t size = bytes + 4096;
     uint8_t *much = mmap(NULL, size, PROT_READ | PROT_WRITE, MAP_PRIVATE | MAP_ANONYMOUS | MAP_NORESERVE, -1, 0);
     if (much == MAP_FAILED) {
-        printf("4 GB of address space cannot be had here, so sizes of 2^32 and more were not tried and nothing is counted for them\n");
+        printf("%zu bytes of address space cannot be had here, so %s were not tried and nothing is counted for them\n", size, name);
         return;
     }
-    check_group("sizes of 2^32 and more");
+    check_group("%s", name);
     memset(much, 1, VALUES);
-    check_much(much);
+    check(much);
     munmap(much, size);
 }
 
 static void in_each_layout(const char *name, void (*sweep)(void))
 {
     check_group("%s", name);
-    for (layout = is_short ? GUARDED_MALLOC : GUARDED_PAGE_AFTER; layout <= (is_short ? GUARDED_MALLOC : GUARDED_PAGE_BEFORE); layout++)
+    for (layout = first_layout(is_short); layout <= last_layout(is_short); layout++)
         sweep();
 }
 
@@ -215,10 +246,13 @@ int main(int argc, char **argv)
     in_each_layout("recover: every size", every_size_of_recover);
     in_each_layout("capture writing: every size", every_size_of_capture_write);
     in_each_layout("capture reading: every size", every_size_of_capture_read);
+    in_each_layout("quantising: every count and every room", every_size_of_quantise);
     in_each_layout("every length", every_length);
     in_each_layout("every mark", every_mark);
     in_each_layout("every byte of a capture's form", every_byte_of_form);
-    if (!is_short)
-        sizes_of_2_to_the_32();
+    if (!is_short) {
+        with_much("sizes of 2^32 and more", MUCH, check_much);
+        with_much("counts of 2^32 and more", sizeof(float) * MUCH, check_many_numbers);
+    }
     return check_end();
 }

@@ -1,31 +1,36 @@
-/* threads.c: the four calls from several threads at once, on different messages and lengths. Each answer and each byte written must be that of the
+/* threads.c: the five calls from several threads at once, on different messages and lengths. Each answer and each byte written must be that of the
  * same call made alone. All threads are lent the same inputs; what is written is each thread's own. */
 #include "check.h"
 #include "gloamstrother.h"
 #include "model.h"
 
+#include <math.h>
 #include <pthread.h>
 #include <string.h>
 
-enum { THREADS = 8, JOBS = 48, ROUNDS = 12, OPERATIONS = 4 };
+enum { THREADS = 8, JOBS = 48, ROUNDS = 12, OPERATIONS = 5 };
 
-static const char *const names[OPERATIONS] = {"build", "recover", "capture writing", "capture reading"};
+static const char *const names[OPERATIONS] = {"build", "recover", "capture writing", "capture reading", "quantising"};
 
 /* What the calls write. */
 struct written {
     uint8_t frame[GLOAM_MOST_FRAME_SIZE], message[GLOAM_MOST_MESSAGE_SIZE], capture[GLOAM_MOST_CAPTURE_SIZE];
-    uint8_t marks[GLOAM_MOST_MARKS_SIZE], values[GLOAM_MOST_VALUES_SIZE];
+    uint8_t marks[GLOAM_MOST_MARKS_SIZE], values[GLOAM_MOST_VALUES_SIZE], quantised[GLOAM_MOST_VALUES_SIZE];
 };
 
-/* One message and what is heard of it, and what the calls answered and wrote alone. */
+/* One message and what is heard of it, as values and as numbers, and what the calls answered and wrote alone; quantising answers for each burst. */
 struct job {
     size_t length;
     unsigned mode;
     uint8_t message[GLOAM_MOST_MESSAGE_SIZE];
     uint8_t marks[GLOAM_MOST_MARKS_SIZE], values[GLOAM_MOST_VALUES_SIZE];
+    float numbers[GLOAM_MOST_VALUES_SIZE];
     gloam_written built, stored;
     gloam_recovered recovered;
     gloam_read read;
+    struct quantised {
+        gloam_quantised bursts[GLOAM_MOST_MARKS_SIZE];
+    } quantised;
     struct written alone;
 };
 
@@ -40,6 +45,15 @@ struct worker {
 };
 
 static struct worker workers[THREADS];
+
+/* Near the values and beyond; one burst in eight is silent, and one number in two hundred is a NaN. */
+static void make_numbers(struct job *job, uint64_t *random)
+{
+    for (size_t k = 0; k < GLOAM_VALUES_SIZE(job->length); k++) {
+        float number = (float)(int8_t)job->values[k] * (float)(model_random(random) % 1000) / 400;
+        job->numbers[k] = k / 24 % 8 == 5 ? 0.0f : model_random(random) % 200 == 0 ? NAN : number;
+    }
+}
 
 /* Noise up to where some are refused: then the refusals must be the same. */
 static void make_job(struct job *job, size_t number)
@@ -58,6 +72,7 @@ static void make_job(struct job *job, size_t number)
     }
     for (size_t s = 0; s < GLOAM_MARKS_SIZE(job->length); s++)
         job->marks[s] = model_random(&random) % 4 != 0;
+    make_numbers(job, &random);
 }
 
 static gloam_written build(const struct job *job, struct written *to)
@@ -80,12 +95,22 @@ static gloam_read read_back(const struct job *job, struct written *to)
     return gloam_capture_read(job->alone.capture, GLOAM_CAPTURE_SIZE(job->length), to->marks, sizeof to->marks, to->values, sizeof to->values);
 }
 
+static struct quantised quantise(const struct job *job, struct written *to)
+{
+    struct quantised answers;
+    memset(&answers, 0, sizeof answers);
+    for (size_t s = 0; s < GLOAM_MARKS_SIZE(job->length); s++)
+        answers.bursts[s] = gloam_burst_quantise(job->numbers + 24 * s, GLOAM_BURST_VALUES, to->quantised + 24 * s, sizeof to->quantised - 24 * s);
+    return answers;
+}
+
 static void run_alone(struct job *job)
 {
     job->built = build(job, &job->alone);
     job->recovered = recover(job, &job->alone);
     job->stored = store(job, &job->alone);
     job->read = read_back(job, &job->alone);
+    job->quantised = quantise(job, &job->alone);
 }
 
 static void count(struct worker *worker, size_t operation, bool alike)
@@ -103,10 +128,12 @@ static void run_beside_others(struct worker *worker, const struct job *job)
     gloam_written built = build(job, own), stored = store(job, own);
     gloam_recovered recovered = recover(job, own);
     gloam_read read = read_back(job, own);
+    struct quantised quantised = quantise(job, own);
     count(worker, 0, ALIKE(built, job->built) && ALIKE(own->frame, job->alone.frame));
     count(worker, 1, ALIKE(recovered, job->recovered) && ALIKE(own->message, job->alone.message));
     count(worker, 2, ALIKE(stored, job->stored) && ALIKE(own->capture, job->alone.capture));
     count(worker, 3, ALIKE(read, job->read) && ALIKE(own->marks, job->alone.marks) && ALIKE(own->values, job->alone.values));
+    count(worker, 4, ALIKE(quantised, job->quantised) && ALIKE(own->quantised, job->alone.quantised));
 }
 
 static void *work(void *argument)
@@ -131,12 +158,22 @@ static bool run_all(void)
 }
 
 /* The jobs are worth running: most are recovered, and some are refused. */
-static void check_jobs(void)
+static void check_recovered(void)
 {
     size_t done = 0;
     for (size_t k = 0; k < JOBS; k++)
         done += jobs[k].recovered.refusal == GLOAM_DONE;
     CHECK_TRUE("most jobs are recovered and some are refused", done > JOBS / 2 && done < JOBS);
+}
+
+/* And of the bursts each finding is there. */
+static void check_findings(void)
+{
+    size_t seen[4] = {0};
+    for (size_t k = 0; k < JOBS; k++)
+        for (size_t s = 0; s < GLOAM_MARKS_SIZE(jobs[k].length); s++)
+            seen[jobs[k].quantised.bursts[s].finding % 4]++;
+    CHECK_TRUE("bursts are heard, silent and faulty", seen[GLOAM_HEARD] > 0 && seen[GLOAM_SILENT] > 0 && seen[GLOAM_FAULTY] > 0);
 }
 
 static void check_operation(size_t operation)
@@ -151,7 +188,9 @@ static void check_operation(size_t operation)
     CHECK_NUMBER("calls", THREADS * JOBS * ROUNDS, calls);
     CHECK_NUMBER("calls that answer otherwise than alone", 0, different);
     if (operation == 1)
-        check_jobs();
+        check_recovered();
+    if (operation == 4)
+        check_findings();
     check_note(", %lu calls", calls);
 }
 

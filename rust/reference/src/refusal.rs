@@ -1,8 +1,8 @@
-//! The refusals of document 01, "What comes back".
+//! The refusals of document 01, "What comes back", and of request #101.
 
 /// The length is below 20 or above 255.
 pub const LENGTH: u32 = 1;
-/// Message, marks or values are not of the exact size for the length.
+/// Message, marks, values or numbers are not of the exact size.
 pub const SIZE: u32 = 2;
 /// An output buffer is too short.
 pub const ROOM: u32 = 3;

@@ -1,4 +1,5 @@
-//! The four calls as C makes them: null for each empty buffer, and all fields of the answer.
+//! The calls on frames and captures as C makes them: null for each empty buffer, and all fields of
+//! the answer.
 //!
 //! All of them are sound: each pointer goes with the size of its own buffer, and a buffer that is
 //! written is borrowed alone.

@@ -1,10 +1,10 @@
 //! One call made on the archive and on the reference, and everything that both left compared.
 
-use gloamstrother::Refusal;
 use reference::Rule;
 
 use crate::as_c;
-use crate::lent::Lent;
+use crate::judged::Judged;
+use crate::lent::{seen_as, seen_as_mut, Lent};
 
 /// A call with all it is given. Buffers that it writes have what stands in them before. Values are
 /// bytes in two's complement.
@@ -34,55 +34,16 @@ pub fn judge(rule: Rule, call: &Call, guards: [u8; 2]) -> Judged {
     }
 }
 
-/// What the reference answered, and in what the archive differs.
-pub struct Judged {
-    /// The numbers of the answer, or the refusal.
-    pub expected: Result<Vec<u32>, u32>,
-    pub differences: Vec<String>,
-}
-
-impl Judged {
-    /// Compares the answers.
-    fn new(expected: Result<Vec<u32>, u32>, got: Result<Vec<u32>, Refusal>) -> Judged {
-        let got = got.map_err(Refusal::number);
-        let mut differences = Vec::new();
-        if got != expected {
-            differences.push(format!("the answer is {got:?}, expected {expected:?}"));
-        }
-        Judged { expected, differences }
-    }
-
-    /// Compares the fields that C gets for a refused call.
-    fn refused_for_c(&mut self, fields: &[u32]) {
-        let refusal = self.expected.as_ref().err().copied().unwrap_or(0);
-        if fields[0] != refusal || fields[1..].iter().any(|&field| field != 0) {
-            self.differences.push(format!("C gets {fields:?} for the refusal {refusal}"));
-        }
-    }
-
-    /// Compares buffers with what stood in them before and what should have been written.
-    fn buffers(&mut self, buffers: &[Buffer]) {
-        for (name, lent, before, written) in buffers {
-            let mut expected = before.to_vec();
-            expected[..written.len()].copy_from_slice(written);
-            self.differences.extend(lent.differences(name, &expected));
-        }
-    }
-}
-
-/// A buffer's name, what is lent, what stood in it before, and what should have been written.
-type Buffer<'a> = (&'a str, &'a Lent, &'a [u8], &'a [u8]);
-
 fn build(guards: [u8; 2], length: u64, mode: u64, message: &[u8], frame: &[u8]) -> Judged {
     let expected = reference::build(length, mode, message, frame.len());
     let (from, mut to) = (Lent::new(message, guards), Lent::new(frame, guards));
-    let got = gloamstrother::build(length, mode, from.bytes(), to.bytes_mut());
+    let got = gloamstrother::build(length, mode, from.content(), to.content_mut());
     let size = |frame: Vec<u8>| vec![frame.len() as u32];
     let mut judged = Judged::new(expected.clone().map(size), got.map(|size| vec![size as u32]));
     let written = expected.unwrap_or_default();
     judged.buffers(&[("message", &from, message, &[]), ("frame", &to, frame, &written)]);
     if got.is_err() {
-        judged.refused_for_c(&as_c::build(length, mode, &from, &mut to));
+        judged.fields_for_c(&as_c::build(length, mode, &from, &mut to));
         judged.buffers(&[("message", &from, message, &[]), ("frame", &to, frame, &[])]);
     }
     judged
@@ -99,8 +60,8 @@ fn recover(
     let expected = reference::recover(rule, length, marks, values, message.len());
     let (from_marks, from_values) = (Lent::new(marks, guards), Lent::new(values, guards));
     let mut to = Lent::new(message, guards);
-    let (lent_marks, lent_values) = (from_marks.bytes(), from_values.signed());
-    let got = gloamstrother::recover(length, lent_marks, lent_values, to.bytes_mut());
+    let (lent_marks, lent_values) = (from_marks.content(), seen_as(from_values.content()));
+    let got = gloamstrother::recover(length, lent_marks, lent_values, to.content_mut());
     let (numbers, written) = match expected {
         Ok(done) => (Ok(vec![done.length, done.mode, done.cost]), done.message),
         Err(refusal) => (Err(refusal), vec![]),
@@ -110,7 +71,7 @@ fn recover(
     judged.buffers(&inputs);
     judged.buffers(&[("message", &to, message, &written)]);
     if got.is_err() {
-        judged.refused_for_c(&as_c::recover(length, &from_marks, &from_values, &mut to));
+        judged.fields_for_c(&as_c::recover(length, &from_marks, &from_values, &mut to));
         judged.buffers(&inputs);
         judged.buffers(&[("message", &to, message, &[])]);
     }
@@ -127,15 +88,15 @@ fn write_capture(
     let expected = reference::write_capture(length, marks, values, capture.len());
     let (from_marks, from_values) = (Lent::new(marks, guards), Lent::new(values, guards));
     let mut to = Lent::new(capture, guards);
-    let (lent_marks, lent_values) = (from_marks.bytes(), from_values.signed());
-    let got = gloamstrother::write_capture(length, lent_marks, lent_values, to.bytes_mut());
+    let (lent_marks, lent_values) = (from_marks.content(), seen_as(from_values.content()));
+    let got = gloamstrother::write_capture(length, lent_marks, lent_values, to.content_mut());
     let size = |capture: Vec<u8>| vec![capture.len() as u32];
     let mut judged = Judged::new(expected.clone().map(size), got.map(|size| vec![size as u32]));
     let inputs = [("marks", &from_marks, marks, &[][..]), ("values", &from_values, values, &[])];
     judged.buffers(&inputs);
     judged.buffers(&[("capture", &to, capture, &expected.unwrap_or_default())]);
     if got.is_err() {
-        judged.refused_for_c(&as_c::write_capture(length, &from_marks, &from_values, &mut to));
+        judged.fields_for_c(&as_c::write_capture(length, &from_marks, &from_values, &mut to));
         judged.buffers(&inputs);
         judged.buffers(&[("capture", &to, capture, &[])]);
     }
@@ -146,8 +107,8 @@ fn read_capture(guards: [u8; 2], capture: &[u8], marks: &[u8], values: &[u8]) ->
     let expected = reference::read_capture(capture, marks.len(), values.len());
     let from = Lent::new(capture, guards);
     let (mut to_marks, mut to_values) = (Lent::new(marks, guards), Lent::new(values, guards));
-    let (lent_marks, lent_values) = (to_marks.bytes_mut(), to_values.signed_mut());
-    let got = gloamstrother::read_capture(from.bytes(), lent_marks, lent_values);
+    let (lent_marks, lent_values) = (to_marks.content_mut(), seen_as_mut(to_values.content_mut()));
+    let got = gloamstrother::read_capture(from.content(), lent_marks, lent_values);
     let (numbers, read_marks, read_values) = match expected {
         Ok(read) => (Ok(vec![read.length]), read.marks, read.values),
         Err(refusal) => (Err(refusal), vec![], vec![]),
@@ -157,7 +118,7 @@ fn read_capture(guards: [u8; 2], capture: &[u8], marks: &[u8], values: &[u8]) ->
     judged.buffers(&[("marks", &to_marks, marks, &read_marks)]);
     judged.buffers(&[("values", &to_values, values, &read_values)]);
     if got.is_err() {
-        judged.refused_for_c(&as_c::read_capture(&from, &mut to_marks, &mut to_values));
+        judged.fields_for_c(&as_c::read_capture(&from, &mut to_marks, &mut to_values));
         judged.buffers(&[("capture", &from, capture, &[])]);
         judged.buffers(&[("marks", &to_marks, marks, &[]), ("values", &to_values, values, &[])]);
     }

@@ -1,6 +1,7 @@
 //! What was seen, kind by kind.
 
 use crate::kinds::{Kind, KINDS};
+use crate::table::table;
 
 /// The greatest refusal that the table has a column for.
 const MOST_REFUSAL: usize = 10;
@@ -79,28 +80,10 @@ impl Tally {
 
     /// Kind, cases, done, and refused by each number, for the kinds that occurred.
     pub fn table(&self) -> String {
-        let mut table = format!("{:32}{:>8}{:>8}", "kind", "cases", "done");
-        for number in 1..=MOST_REFUSAL {
-            table += &format!("{number:>7}");
-        }
-        table.push('\n');
-        let mut sums = [0; MOST_REFUSAL + 1];
-        for (answers, (_, _, name)) in self.answers.iter().zip(KINDS) {
-            if answers.iter().any(|&count| count > 0) {
-                table += &line(name, answers);
-            }
-            sums.iter_mut().zip(answers).for_each(|(sum, count)| *sum += count);
-        }
-        table + &line("together", &sums)
+        let mut ends = vec!["done".to_string()];
+        ends.extend((1..=MOST_REFUSAL).map(|number| number.to_string()));
+        let kinds =
+            self.answers.iter().zip(KINDS).map(|(answers, (_, _, name))| (name, &answers[..]));
+        table(&ends, kinds.filter(|(_, answers)| answers.iter().any(|&count| count > 0)))
     }
-}
-
-fn line(name: &str, answers: &[u64; MOST_REFUSAL + 1]) -> String {
-    let mut line = format!("{name:32}{:>8}", answers.iter().sum::<u64>());
-    for (number, count) in answers.iter().enumerate() {
-        let width = if number == 0 { 8 } else { 7 };
-        let shown = if *count == 0 { "-".into() } else { count.to_string() };
-        line += &format!("{shown:>width$}");
-    }
-    line + "\n"
 }
