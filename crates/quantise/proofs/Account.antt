@@ -1,10 +1,10 @@
 -- The kit's account of a number and what its bits stand for agree. Assumes nothing.
 use mathlib.Core.Bool.{Bool, true, false, cond}
-use mathlib.Core.Path.{_≡_, refl, sym, ap, _∙_, subst}
-use Prim.Native.Nat.{ℕ, zero, suc, _+_, _*_, _%_, _/_, _^_}
+use mathlib.Core.Path.{refl, sym, ap, subst}
+use Prim.Native.Nat.{ℕ, zero, suc, _+_, _*_, _^_}
 use native.Mathlib.Nat.{mul-one}
-use lib.Dec.{T, eqb, leb}
-use lib.Ieee.{Float, nan, inf, fin, binary32, odd, ofFields, ofBits, toBits, fits, up, down}
+use lib.Dec.{eqb}
+use lib.Ieee.{Float, nan, inf, fin, binary32, odd, ofFields, ofBits, toBits}
 use lib.Ieee.Bits.{ofBits-toBits}
 use lib.Ieee.Exact.{HasValue, odd-sign}
 use Rattle.quantise.specs.Number.{Number, notANumber, infinite, exactly, signOf, exponentOf, fractionOf, unitsOf, numberOf}

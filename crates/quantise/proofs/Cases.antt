@@ -1,10 +1,9 @@
 -- The points of reference hold: each is computed. Assumes nothing.
 use mathlib.Core.Path.{refl}
-use Prim.Native.Nat.{ℕ}
-use Rattle.quantise.specs.Number.{Number, numberOf}
+use Rattle.quantise.specs.Number.{numberOf}
 use Rattle.quantise.specs.Value.{valueOf}
 use Rattle.quantise.specs.Finding.{findingOf}
-use Rattle.quantise.specs.Cases.{At, Cases}
+use Rattle.quantise.specs.Cases.{Cases}
 
 pub cases : Cases
 unfolding numberOf valueOf findingOf

@@ -1,21 +1,17 @@
 -- The finding told by the greatest of the bits without signs. Assumes nothing.
-use mathlib.Core.Bool.{Bool, true, false, cond, _&&_, _||_}
-use mathlib.Core.List.{List, [], _∷_, _++_}
+use mathlib.Core.List.{List, [], _∷_}
 use mathlib.Core.Logic.{_⊎_, inl, inr, ⊎-elim}
 use mathlib.Core.Path.{_≡_, refl, sym, ap, _∙_}
-use Prim.Native.Nat.{ℕ, _%_, _^_, _≤_, _<_, max}
+use Prim.Native.Nat.{ℕ, _^_, _≤_, _<_}
 use native.Mathlib.Nat.{eq-or-lt-of-le, le-of-lt}
 use native.Mathlib.Omega.{arith}
-use borrow.Author.Tests.{ltb-true, ltb-false, lt-ltb, le-ltb, eq-eqb, ne-eqb}
+use borrow.Author.Tests.{lt-ltb, le-ltb, ne-eqb}
 use lib.Dec.{ltb, eqb}
-use lib.Ieee.{binary32, ofBits}
-use Rattle.quantise.specs.Number.{Number, notANumber, infinite, exactly, signOf, unitsOf, numberOf}
+use Rattle.quantise.specs.Number.{unitsOf, numberOf}
 use Rattle.quantise.specs.Finding.{isNaN, isZero, exceeds, someNaN, allZero, magnitude, peakOf, findingOf}
-use Rattle.quantise.specs.declared.Finding.{Finding}
-use Rattle.quantise.specs.declared.Finding.the-variants.{Heard, Silent, Faulty}
 use Rattle.quantise.specs.Parts.{unitsAt, greatest, foundAt}
 use Rattle.quantise.proofs.Numbers.{infinity, number-nan, number-infinite, number-exactly}
-use Rattle.quantise.proofs.Rounding.{less-or-not}
+use Rattle.quantise.proofs.Order.{less-or-not, same-order, same-zero, some-above, both-zero, cond-max}
 use Rattle.quantise.proofs.Units.{units-less, units-most}
 
 -- every number's bits without its sign are above an infinity's, an infinity's, or below
@@ -28,29 +24,6 @@ nan-above b = elim (three b) [
   | inr (inl e) ↦ rw (number-infinite b e, e)
   | inr (inr l) ↦ rw (number-exactly b l, le-ltb infinity (magnitude b) (le-of-lt l))
 ]
-
--- two tests that pass together are one
-same-order : (a b c d : ℕ) → (a < b → c < d) → (b ≤ a → d ≤ c) → ltb a b ≡ ltb c d
-same-order a b c d f g = ⊎-elim (λ l. rw (lt-ltb a b l, lt-ltb c d (f l))) (λ l. rw (le-ltb a b l, le-ltb c d (g l))) (less-or-not a b)
-
-same-zero : (a b : ℕ) → (0 < a → 0 < b) → (a ≡ 0 → b ≡ 0) → eqb a 0 ≡ eqb b 0
-same-zero a b f g =
-    ⊎-elim
-    (λ (l : 0 < a). rw (ne-eqb a 0 (λ e. omega arith), ne-eqb b 0 (λ e. omega (arith, f l))))
-    (λ (l : a ≤ 0). rw (eq-eqb a 0 (omega arith), eq-eqb b 0 (g (omega arith))))
-    (less-or-not 0 a)
-
-some-above : (k m n : ℕ) → ltb k m || ltb k n ≡ ltb k (max m n)
-some-above k m n = ⊎-elim
-    (λ (l : k < m). rw (lt-ltb k m l, lt-ltb k (max m n) (omega arith)))
-    (λ (g : m ≤ k). rw (le-ltb k m g) (same-order k n k (max m n) (λ l. omega arith) (λ l. omega arith)))
-    (less-or-not k m)
-
-both-zero : (m n : ℕ) → eqb m 0 && eqb n 0 ≡ eqb (max m n) 0
-both-zero m n = ⊎-elim
-    (λ (l : 0 < m). rw (ne-eqb m 0 (λ e. omega arith), ne-eqb (max m n) 0 (λ e. omega arith)))
-    (λ (g : m ≤ 0). rw (eq-eqb m 0 (omega arith)) (same-zero n (max m n) (λ l. omega arith) (λ e. omega arith)))
-    (less-or-not 0 m)
 
 -- the bits of zero are no 2^-149, and all others are some
 zero-units : unitsAt 0 ≡ 0
@@ -93,10 +66,6 @@ pub greatest-below : (bs : List ℕ) → greatest bs < 2 ^ 31
 unfolding greatest
 greatest-below [] = omega arith
 greatest-below (b ∷ bs) = omega (arith, greatest-below bs)
-
--- the greater of two
-cond-max : (m n : ℕ) → cond (ltb n m) m n ≡ max m n
-cond-max m n = ⊎-elim (λ l. rw (lt-ltb n m l) (omega arith)) (λ g. rw (le-ltb n m g) (omega arith)) (less-or-not n m)
 
 pub peak-greatest : (bs : List ℕ) → greatest bs ≤ infinity → peakOf bs ≡ greatest bs
 unfolding peakOf greatest

@@ -4,7 +4,7 @@ use mathlib.Core.Path.{_≡_, ap}
 use Prim.Native.Nat.{ℕ, _+_, _-_, _*_, _/_, _%_, _≤_, _<_, min}
 use native.Mathlib.Nat.{div-add-mod', mod-lt, mul-le-mul-right, suc-mul, min-le-left, le-trans, le-of-lt, le-of-eq, eq-zero-or-pos, zero-mul}
 use native.Mathlib.Omega.{arith}
-use Rattle.quantise.proofs.Rounding.{less-or-not}
+use Rattle.quantise.proofs.Order.{less-or-not}
 
 -- how far two numbers lie apart
 abbrev pub gap : ℕ → ℕ → ℕ

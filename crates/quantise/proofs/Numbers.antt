@@ -1,11 +1,11 @@
 -- What bits stand for, told by their order without the sign: above an infinity's they are no number, below they are exactly so many 2^-149. Assumes nothing.
 use mathlib.Core.Bool.{Bool, true, false, cond}
-use mathlib.Core.Path.{_≡_, refl, sym, ap, _∙_}
-use Prim.Native.Nat.{ℕ, _+_, _*_, _/_, _%_, _^_, _≤_, _<_}
+use mathlib.Core.Path.{_≡_, refl, ap, _∙_}
+use Prim.Native.Nat.{ℕ, _*_, _%_, _^_, _<_}
 use native.Mathlib.Omega.{arith}
 use borrow.Author.Tests.{eq-eqb, ne-eqb}
 use lib.Dec.{eqb}
-use Rattle.quantise.specs.Number.{Number, notANumber, infinite, exactly, signOf, exponentOf, fractionOf, unitsOf, numberOf}
+use Rattle.quantise.specs.Number.{notANumber, infinite, exactly, signOf, exponentOf, fractionOf, unitsOf, numberOf}
 use Rattle.quantise.specs.Parts.{unitsAt}
 
 -- the bits of an infinity without its sign

@@ -1,19 +1,17 @@
 -- The finding, and what the peak is among the numbers. Assumes nothing.
-use mathlib.Core.Bool.{Bool, true, false, cond, not}
+use mathlib.Core.Bool.{false, not}
 use mathlib.Core.List.{List, [], _∷_}
 use mathlib.Core.Logic.{⊎-elim}
-use mathlib.Core.Path.{_≡_, refl, sym, ap, _∙_}
-use Prim.Native.Nat.{ℕ, zero, suc, _%_, _^_, _≤_, _<_, max}
+use mathlib.Core.Path.{_≡_, sym, _∙_}
+use Prim.Native.Nat.{ℕ, zero, suc, _%_, _^_, _≤_, _<_}
 use native.Mathlib.Nat.{not-suc-le-zero, le-of-suc-le-suc, eq-zero-or-pos}
 use native.Mathlib.Omega.{arith}
 use borrow.Author.Tests.{ltb-false, le-ltb, eqb-false}
-use lib.Dec.{T, ltb, eqb}
-use lib.Ieee.{Float, binary32, ofBits, toBits, isNan, nanBits}
+use lib.Dec.{T}
+use lib.Ieee.{Float, binary32, ofBits, toBits, isNan}
 use lib.Ieee.Bits.{toBits-ofBits, nanBits-is, nanBits-above}
 use lib.ListN.{length, getD}
-use Rattle.quantise.specs.Number.{numberOf}
-use Rattle.quantise.specs.Finding.{exceeds, someNaN, allZero, magnitude, peakOf, findingOf}
-use Rattle.quantise.specs.declared.Finding.the-variants.{Heard, Silent, Faulty}
+use Rattle.quantise.specs.Finding.{someNaN, allZero, magnitude, peakOf, findingOf}
 use Rattle.quantise.specs.declared.Quantised.{Quantised}
 use Rattle.quantise.specs.declared.Quantised.the-variants as Quantised-is
 use Rattle.quantise.specs.Answers.{quantisedRefusal}
@@ -21,7 +19,7 @@ use Rattle.quantise.specs.Quantise.{patterns, Quantises}
 use Rattle.quantise.specs.Promises.{Peaks, Findings}
 use Rattle.quantise.specs.Parts.{greatest}
 use Rattle.quantise.proofs.Numbers.{infinity}
-use Rattle.quantise.proofs.Rounding.{less-or-not}
+use Rattle.quantise.proofs.Order.{less-or-not}
 use Rattle.quantise.proofs.Findings.{exceeds-order, some-nan, all-zero, greatest-below, peak-greatest}
 
 -- every one is at most the greatest, and where it is not 0 it is that of one
@@ -71,7 +69,7 @@ module _ {numbers : List Float} {before after : List ℕ} {answer : Quantised} (
   answered : answer ≡ Quantised-is.Done (findingOf (patterns numbers))
   answered = p .finding (sym (p .refusal) ∙ done)
 
-  pub findings : Findings numbers before after answer
+  pub findings : Findings numbers answer
   unfolding findingOf
   findings =
       record {

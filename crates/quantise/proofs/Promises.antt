@@ -1,7 +1,7 @@
 -- Everything that quantising promises. Assumes nothing.
 use Rattle.quantise.specs.Promises.{Promises}
 use Rattle.quantise.proofs.Account.{account}
-use Rattle.quantise.proofs.Promised.{values}
+use Rattle.quantise.proofs.Values.{values}
 use Rattle.quantise.proofs.Peaks.{findings}
 use Rattle.quantise.proofs.Unique.{no-second}
 

@@ -1,24 +1,15 @@
 -- Rounding at a coarser scale, and what holding the bits between a quarter's and 127's keeps. Assumes nothing.
-use mathlib.Core.Bool.{Bool, true, false}
-use mathlib.Core.Logic.{_⊎_, inl, inr, ⊎-elim}
+use mathlib.Core.Logic.{_⊎_, ⊎-elim}
 use mathlib.Core.Path.{_≡_, refl, sym, ap, _∙_}
 use Prim.Native.Nat.{ℕ, zero, suc, _+_, _-_, _*_, _/_, _%_, _^_, _≤_, _<_, min, max}
-use native.Mathlib.Nat.{mul-assoc, add-mul, mul-div-mul-right, min-eq-left, min-eq-right, max-eq-left, max-eq-right, le-trans, le-of-lt, mul-le-mul-right, mul-le-mul-left}
+use native.Mathlib.Nat.{mul-assoc, add-mul, mul-div-mul-right, min-eq-left, min-eq-right, le-trans, le-of-lt, mul-le-mul-left}
 use native.Mathlib.Omega.{arith}
-use borrow.Author.Tests.{ltb-true, ltb-false}
-use lib.Dec.{ltb}
 use lib.Pow.{pow-pos, pow-mono, pow-add, shr-mono}
 use Rattle.quantise.specs.Number.{unitsOf}
 use Rattle.quantise.specs.Value.{nearestWhole, held}
 use Rattle.quantise.specs.Parts.{unitsAt, Middling}
+use Rattle.quantise.proofs.Order.{less-or-not}
 use Rattle.quantise.proofs.Units.{units-most}
-
-pub less-or-not : (a b : ℕ) → (a < b) ⊎ (b ≤ a)
-less-or-not a b = go (ltb a b) refl
-  where
-    go : (t : Bool) → ltb a b ≡ t → (a < b) ⊎ (b ≤ a)
-    go true e = inl (ltb-true a b e)
-    go false e = inr (ltb-false a b e)
 
 -- the mantissa, shifted so that it counts 2^-25
 abbrev pub scaled : ℕ → ℕ

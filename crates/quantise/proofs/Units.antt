@@ -2,7 +2,7 @@
 use mathlib.Core.Logic.{⊎-elim}
 use mathlib.Core.Path.{_≡_, ap}
 use Prim.Native.Nat.{ℕ, zero, suc, _+_, _*_, _/_, _%_, _^_, _≤_, _<_}
-use native.Mathlib.Nat.{mod-lt, eq-or-lt-of-le, le-trans, lt-of-lt-of-le, le-of-lt, le-of-eq, mul-lt-mul-of-pos-right, mul-le-mul-left, mul-le-mul-right, pow-succ', not-suc-le-zero}
+use native.Mathlib.Nat.{eq-or-lt-of-le, le-trans, lt-of-lt-of-le, le-of-lt, le-of-eq, mul-lt-mul-of-pos-right, mul-le-mul-left, mul-le-mul-right, pow-succ', not-suc-le-zero}
 use native.Mathlib.Omega.{arith}
 use lib.Pow.{pow-pos, pow-mono}
 use Rattle.quantise.specs.Number.{unitsOf}

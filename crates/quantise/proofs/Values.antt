@@ -1,53 +1,157 @@
--- The value of a number from its bits, as the code makes it. Assumes nothing.
-use mathlib.Core.Bool.{Bool, true, false}
+-- What is promised of values: nearest, halves away from zero, in order, opposite, and never -128. Assumes nothing.
+use mathlib.Core.Bool.{Bool, true, false, not}
 use mathlib.Core.Logic.{⊎-elim}
-use mathlib.Core.Path.{_≡_, refl, sym, ap, _∙_}
-use Prim.Native.Nat.{ℕ, _-_, _%_, _^_, _≤_, _<_, min, max}
-use native.Mathlib.Nat.{min-eq-right, min-le-right, eq-or-lt-of-le, le-trans, le-of-eq}
+use mathlib.Core.Path.{_≡_, refl, sym, _∙_}
+use Prim.Native.Nat.{ℕ, _+_, _-_, _*_, _%_, _^_, _≤_, _<_}
+use native.Mathlib.Nat.{min-le-right, le-of-eq, eq-zero-or-pos}
 use native.Mathlib.Omega.{arith}
 use borrow.Author.Tests.{le-leb, lt-leb}
-use Rattle.quantise.specs.Number.{Number, notANumber, infinite, exactly, signOf, numberOf}
+use lib.Pow.{pow-pos}
+use Rattle.coder.specs.Cost.{weight, against}
+use Rattle.quantise.specs.Number.{Number, notANumber, infinite, exactly}
 use Rattle.quantise.specs.Value.{nearestWhole, held, byteOf, valueOf}
-use Rattle.quantise.specs.Parts.{unitsAt}
-use Rattle.quantise.proofs.Numbers.{infinity, number-nan, number-infinite, number-exactly}
-use Rattle.quantise.proofs.Rounding.{quarter, loudest, held-between, nearest-loudest, above-loudest}
+use Rattle.quantise.specs.Promises.{distance, opposite, AtMost, same, fromMinusInfinity, toInfinity, infinities, minus, minusPlus, plus, zeros, Is, Values}
+use Rattle.quantise.proofs.Rounding.{nearest-mono}
+use Rattle.quantise.proofs.Nearest.{gap, nearest-same, nearest-other, tie-same, tie-other, half-free}
 
--- the bits without a sign, held between a quarter's and 127's
-abbrev pub kept : ℕ → ℕ
-kept b = min (max (b % 2 ^ 31) quarter) loudest
+-- the sign and magnitude of every value
+abbrev sideOf : Number → Bool
+sideOf notANumber = false
+sideOf (infinite s) = s
+sideOf (exactly s u) = s
 
-valueOf-exactly : (s : Bool) (u : ℕ) → valueOf (exactly s u) ≡ byteOf s (held (nearestWhole u))
+abbrev sizeOf : Number → ℕ
+sizeOf notANumber = 0
+sizeOf (infinite s) = 127
+sizeOf (exactly s u) = held (nearestWhole u)
+
+value-is : (n : Number) → Is (valueOf n) (sideOf n) (sizeOf n)
 unfolding valueOf
-valueOf-exactly s u = refl
+value-is notANumber = record { byte = refl; within = omega arith }
+value-is (infinite s) = record { byte = refl; within = omega arith }
+value-is (exactly s u) = record { byte = refl; within = min-le-right (nearestWhole u) 127 }
 
-valueOf-infinite : (s : Bool) → valueOf (infinite s) ≡ byteOf s 127
+-- ---- bytes in two's complement
+
+byte-below : (s : Bool) (w : ℕ) → w ≤ 127 → byteOf s w < 256
+byte-below false w h = omega arith
+byte-below true w h = omega arith
+
+never-128 : (s : Bool) (w : ℕ) → w ≤ 127 → byteOf s w ≡ 128 → ⊥
+never-128 false w h e = omega arith
+never-128 true w h e = omega arith
+
+opposite-bytes : (s : Bool) (w : ℕ) → w ≤ 127 → (byteOf s w + byteOf (not s) w) % 256 ≡ 0
+opposite-bytes false w h = omega arith
+opposite-bytes true w h = omega arith
+
+raised-plus : (w : ℕ) → w ≤ 127 → (byteOf false w + 128) % 256 ≡ 128 + w
+raised-plus w h = omega arith
+
+raised-minus : (w : ℕ) → w ≤ 127 → (byteOf true w + 128) % 256 ≡ 128 - w
+raised-minus w h = omega arith
+
+-- ---- what a byte stands against
+
+against-plus : (w : ℕ) → w ≤ 127 → (against false (byteOf false w) ≡ w) × (against true (byteOf false w) ≡ 0)
+unfolding against weight
+against-plus w h = (rw (lt-leb 128 w (omega arith)), rw (lt-leb 128 w (omega arith)))
+
+against-minus : (w : ℕ) → w ≤ 127 → (against true (byteOf true w) ≡ w) × (against false (byteOf true w) ≡ 0)
+unfolding against weight
+against-minus w h = ⊎-elim
+    (λ (z : w ≡ 0). rw z (refl, refl))
+    (λ (l : 0 < w).
+    let far : (256 - w) % 256 ≡ 256 - w = omega arith in
+    let back : 256 - (256 - w) ≡ w = omega arith in
+    rw (far, le-leb 128 (256 - w) (omega arith)) (back, refl))
+    (eq-zero-or-pos w)
+
+against-value : (s : Bool) (u : ℕ) → (against s (valueOf (exactly s u)) ≡ held (nearestWhole u)) × (against (not s) (valueOf (exactly s u)) ≡ 0)
+against-value false u = rw (value-is (exactly false u) .byte) (against-plus (held (nearestWhole u)) (min-le-right (nearestWhole u) 127))
+against-value true u = rw (value-is (exactly true u) .byte) (against-minus (held (nearestWhole u)) (min-le-right (nearestWhole u) 127))
+
+-- ---- order
+
+least-raised : (s : Bool) (w : ℕ) → w ≤ 127 → (byteOf true 127 + 128) % 256 ≤ (byteOf s w + 128) % 256
+least-raised false w h = omega (arith, raised-plus w h)
+least-raised true w h = omega (arith, raised-minus w h)
+
+most-raised : (s : Bool) (w : ℕ) → w ≤ 127 → (byteOf s w + 128) % 256 ≤ (byteOf false 127 + 128) % 256
+most-raised false w h = omega (arith, raised-plus w h)
+most-raised true w h = omega (arith, raised-minus w h)
+
+plus-raised : (v w : ℕ) → w ≤ 127 → v ≤ w → (byteOf false v + 128) % 256 ≤ (byteOf false w + 128) % 256
+plus-raised v w h l = omega (arith, raised-plus v (omega arith), raised-plus w h)
+
+minus-raised : (v w : ℕ) → w ≤ 127 → v ≤ w → (byteOf true w + 128) % 256 ≤ (byteOf true v + 128) % 256
+minus-raised v w h l = omega (arith, raised-minus v (omega arith), raised-minus w h)
+
+sides-raised : (v w : ℕ) → v ≤ 127 → w ≤ 127 → (byteOf true v + 128) % 256 ≤ (byteOf false w + 128) % 256
+sides-raised v w h k = omega (arith, raised-minus v h, raised-plus w k)
+
+held-below : (u : ℕ) → held (nearestWhole u) ≤ 127
+held-below u = min-le-right (nearestWhole u) 127
+
+held-mono : {u v : ℕ} → u ≤ v → held (nearestWhole u) ≤ held (nearestWhole v)
+held-mono l = omega (arith, nearest-mono l)
+
+ordered : {x y : Number} → AtMost x y → (valueOf x + 128) % 256 ≤ (valueOf y + 128) % 256
 unfolding valueOf
-valueOf-infinite s = refl
+ordered {x} same = le-of-eq refl
+ordered (fromMinusInfinity {s} {u}) = least-raised s (held (nearestWhole u)) (held-below u)
+ordered (toInfinity {s} {u}) = most-raised s (held (nearestWhole u)) (held-below u)
+ordered infinities = omega arith
+ordered (minus {u} {v} l) = minus-raised (held (nearestWhole v)) (held (nearestWhole u)) (held-below u) (held-mono l)
+ordered (minusPlus {u} {v}) = sides-raised (held (nearestWhole u)) (held (nearestWhole v)) (held-below u) (held-below v)
+ordered (plus {u} {v} l) = plus-raised (held (nearestWhole u)) (held (nearestWhole v)) (held-below v) (held-mono l)
+ordered zeros = le-of-eq refl
 
-valueOf-nan : valueOf notANumber ≡ 0
+-- ---- distance, where half a unit is 2^148
+
+least : (s t : Bool) (u v : ℕ) → v ≤ 127 → distance s u s (held (nearestWhole u)) ≤ distance s u t v
+unfolding nearestWhole
+least false false u v k = nearest-same u (2 ^ 148) (pow-pos 148) v k
+least false true u v k = nearest-other u (2 ^ 148) (pow-pos 148) v
+least true false u v k = nearest-other u (2 ^ 148) (pow-pos 148) v
+least true true u v k = nearest-same u (2 ^ 148) (pow-pos 148) v k
+
+ties : (s t : Bool) (u v : ℕ) → v ≤ 127 → distance s u s (held (nearestWhole u)) ≡ distance s u t v → v ≤ held (nearestWhole u)
+unfolding nearestWhole
+ties false false u v k e = tie-same u (2 ^ 148) (pow-pos 148) v k e
+ties false true u v k e = tie-other u (2 ^ 148) (pow-pos 148) v k e
+ties true false u v k e = tie-other u (2 ^ 148) (pow-pos 148) v k e
+ties true true u v k e = tie-same u (2 ^ 148) (pow-pos 148) v k e
+
+twice-half : (a h : ℕ) → a ≤ h → 2 * a ≤ h + h
+twice-half a h l = omega arith
+
+within : (s : Bool) (u : ℕ) → 2 * u < 255 * 2 ^ 149 → 2 * distance s u s (held (nearestWhole u)) ≤ 2 ^ 149
+unfolding nearestWhole
+within false u l = twice-half (gap u (held (nearestWhole u) * 2 ^ 149)) (2 ^ 148) (half-free u (2 ^ 148) (pow-pos 148) l)
+within true u l = twice-half (gap u (held (nearestWhole u) * 2 ^ 149)) (2 ^ 148) (half-free u (2 ^ 148) (pow-pos 148) l)
+
+opposites : (n : Number) → (valueOf n + valueOf (opposite n)) % 256 ≡ 0
 unfolding valueOf
-valueOf-nan = refl
+opposites notANumber = refl
+opposites (infinite s) = opposite-bytes s 127 (omega arith)
+opposites (exactly s u) = opposite-bytes s (held (nearestWhole u)) (held-below u)
 
-pub value-nan : (b : ℕ) → infinity < b % 2 ^ 31 → valueOf (numberOf b) ≡ 0
-value-nan b h = rw (number-nan b h, valueOf-nan)
+of-nan : valueOf notANumber ≡ 0
+unfolding valueOf
+of-nan = refl
 
-value-kept : (b : ℕ) → b % 2 ^ 31 ≤ infinity → valueOf (numberOf b) ≡ byteOf (signOf b) (nearestWhole (unitsAt (kept b)))
-value-kept b h = ⊎-elim
-    (λ (e : b % 2 ^ 31 ≡ infinity).
-    let top : kept b ≡ loudest = above-loudest (b % 2 ^ 31) (omega arith) in
-    rw (number-infinite b e, valueOf-infinite (signOf b), top, nearest-loudest))
-    (λ (l : b % 2 ^ 31 < infinity). rw (number-exactly b l, valueOf-exactly (signOf b) (unitsAt (b % 2 ^ 31)), held-between (b % 2 ^ 31)))
-    (eq-or-lt-of-le h)
-
-pub value-plus : (b : ℕ) → b % 2 ^ 31 ≤ infinity → b < 2 ^ 31 → valueOf (numberOf b) ≡ nearestWhole (unitsAt (kept b))
-value-plus b h l = value-kept b h ∙ ap (λ (s : Bool). byteOf s (nearestWhole (unitsAt (kept b)))) (lt-leb (2 ^ 31) b l)
-
-pub value-minus : (b : ℕ) → b % 2 ^ 31 ≤ infinity → 2 ^ 31 ≤ b → valueOf (numberOf b) ≡ (256 - nearestWhole (unitsAt (kept b))) % 256
-value-minus b h l = value-kept b h ∙ ap (λ (s : Bool). byteOf s (nearestWhole (unitsAt (kept b)))) (le-leb (2 ^ 31) b l)
-
--- what the three calls of the code give: the greater, the lesser, and that rounded
-pub rounded-kept : (b : ℕ) {a k r : ℕ} → a ≡ max (b % 2 ^ 31) quarter → k ≡ min a loudest → r ≡ nearestWhole (unitsAt k) → r ≡ nearestWhole (unitsAt (kept b))
-rounded-kept b p q e = rw (e, q, p)
-
-pub nearest-kept : (b : ℕ) → nearestWhole (unitsAt (kept b)) ≤ 127
-nearest-kept b = rw (← held-between (b % 2 ^ 31)) (min-le-right (nearestWhole (unitsAt (b % 2 ^ 31))) 127)
+pub values : Values
+values =
+    record {
+      nearest = λ s u. (held (nearestWhole u), value-is (exactly s u), λ t v k. least s t u v k);
+      withinHalf = λ s u l. (held (nearestWhole u), value-is (exactly s u), within s u l);
+      halves = λ s u. (held (nearestWhole u), value-is (exactly s u), λ t v k e. ties s t u v k e);
+      ofNaN = of-nan;
+      ofInfinity = λ s. value-is (infinite s);
+      against = λ s u. against-value s u;
+      neverMinus128 = λ n e. never-128 (sideOf n) (sizeOf n) (value-is n .within) (sym (value-is n .byte) ∙ e);
+      aByte = λ n. rw (value-is n .byte) (byte-below (sideOf n) (sizeOf n) (value-is n .within));
+      opposites = opposites;
+      ordered = λ p. ordered p;
+    }

@@ -1,7 +1,7 @@
 -- Points of reference: the bits of a number, what they stand for, and its value; and bursts with their findings.
 -- To be believed: all of it, beside a table of IEEE 754's patterns. Assumes nothing.
 use mathlib.Core.Bool.{true, false}
-use mathlib.Core.List.{List, _∷_}
+use mathlib.Core.List.{_∷_}
 use mathlib.Core.Path.{_≡_}
 use Prim.Native.Nat.{ℕ, _-_, _*_, _^_}
 use lib.Ieee.{binary32, ofBits}

@@ -86,16 +86,15 @@ pub record Peaks (bs : List ℕ) (p : ℕ) : Type 0 where
   pub one : p ≡ magnitude (getD bs place 0)
   pub most : (k : ℕ) → k < length bs → exceeds (numberOf (getD bs k 0)) (numberOf p) ≡ false
 
-module _ (numbers : List Float) (before after : List ℕ) (answer : Quantised) where
-  pub record Findings : Type 0 where
-    -- "faulty because a NaN was present", and only then
-    pub faulty : someNaN (patterns numbers) ≡ true → answer ≡ Quantised-is.Done Faulty
-    -- "Silent means that all 24 are plus or minus zero"
-    pub silent : someNaN (patterns numbers) ≡ false → allZero (patterns numbers) ≡ true → answer ≡ Quantised-is.Done Silent
-    -- "heard with its peak magnitude": "Infinities count .. as the peak", since nothing exceeds one
-    pub heard :
-        someNaN (patterns numbers) ≡ false → allZero (patterns numbers) ≡ false
-        → (peak : Float) × (answer ≡ Quantised-is.Done (Heard peak)) × Peaks (patterns numbers) (toBits binary32 peak)
+pub record Findings (numbers : List Float) (answer : Quantised) : Type 0 where
+  -- "faulty because a NaN was present", whatever else is there
+  pub faulty : someNaN (patterns numbers) ≡ true → answer ≡ Quantised-is.Done Faulty
+  -- "Silent means that all 24 are plus or minus zero"
+  pub silent : someNaN (patterns numbers) ≡ false → allZero (patterns numbers) ≡ true → answer ≡ Quantised-is.Done Silent
+  -- "heard with its peak magnitude", in every other case; "Infinities count .. as the peak", since nothing exceeds one
+  pub heard :
+      someNaN (patterns numbers) ≡ false → allZero (patterns numbers) ≡ false
+      → (peak : Float) × (answer ≡ Quantised-is.Done (Heard peak)) × Peaks (patterns numbers) (toBits binary32 peak)
 
 -- ---- every answer
 
@@ -112,5 +111,5 @@ pub record Promises : Type 0 where
   pub values : Values
   pub findings :
       {numbers : List Float} {before after : List ℕ} {answer : Quantised}
-      → Quantises numbers before after answer → quantisedRefusal answer ≡ 0 → Findings numbers before after answer
+      → Quantises numbers before after answer → quantisedRefusal answer ≡ 0 → Findings numbers answer
   pub noSecond : NoSecond

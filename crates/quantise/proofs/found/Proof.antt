@@ -1,14 +1,11 @@
 -- `quantise::found` meets its contract. Assumes nothing.
-use mathlib.Core.Bool.{Bool, true, false, cond, not}
-use mathlib.Core.Path.{_≡_, refl, sym, ap, _∙_}
-use Prim.Native.Nat.{ℕ, _≤_, _<_, _%_, _^_}
+use mathlib.Core.Bool.{not}
+use Prim.Native.Nat.{ℕ, _≤_, _%_, _^_}
 use native.Mathlib.Omega.{arith}
 use borrow.Author.Tests.{lt-ltb, le-ltb, eq-eqb, ne-eqb}
 use lib.Dec.{T}
-use lib.Ieee.{binary32, ofBits, nanBits}
+use lib.Ieee.{binary32, nanBits}
 use lib.Ieee.Bits.{nanBits-above}
-use Rattle.quantise.specs.declared.Finding.{Finding}
-use Rattle.quantise.specs.declared.Finding.the-variants.{Heard, Silent, Faulty}
 use Rattle.quantise.specs.Parts.{foundAt}
 use Rattle.quantise.proofs.Numbers.{infinity}
 use Rattle.quantise.proofs.found.Statement.{statement}

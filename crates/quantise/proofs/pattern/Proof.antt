@@ -1,6 +1,6 @@
 -- `quantise::pattern` meets its contract: only a NaN differs from itself. Assumes nothing.
 use mathlib.Core.Bool.{true, false, true≢false, not}
-use mathlib.Core.Path.{_≡_, sym, ap, _∙_, refl}
+use mathlib.Core.Path.{_≡_, sym, _∙_}
 use borrow.Author.Needs.{needs}
 use lib.Dec.{T}
 use lib.Ieee.{Float, nan, inf, fin, binary32, isNan, ne, toBits}

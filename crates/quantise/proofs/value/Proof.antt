@@ -4,7 +4,7 @@ use Prim.Native.Nat.{ℕ, _-_, _%_}
 use native.Mathlib.Omega.{arith}
 use borrow.Author.Needs.{needs}
 use Rattle.quantise.proofs.Rounding.{middling}
-use Rattle.quantise.proofs.Values.{value-nan, value-plus, value-minus, rounded-kept, nearest-kept}
+use Rattle.quantise.proofs.Held.{value-nan, value-plus, value-minus, rounded-kept, nearest-kept}
 use Rattle.quantise.proofs.value.Statement.{statement}
 use Rattle.quantise.proofs.value.Tie as tie
 
