@@ -12,6 +12,11 @@ int main(void)
     static uint8_t capture[GLOAM_MOST_CAPTURE_SIZE + 1];
     static uint8_t marks[GLOAM_MOST_MARKS_SIZE], values[GLOAM_MOST_VALUES_SIZE], message[GLOAM_MOST_MESSAGE_SIZE];
 
+    if (gloam_version() != GLOAM_VERSION) {
+        fprintf(stderr, "the header is of version %u and the archive of %u\n", (unsigned)GLOAM_VERSION, (unsigned)gloam_version());
+        return 2;
+    }
+
     size_t size = fread(capture, 1, sizeof capture, stdin);
     gloam_read heard = gloam_capture_read(capture, size, marks, sizeof marks, values, sizeof values);
     if (heard.refusal != GLOAM_DONE) {

@@ -1,6 +1,6 @@
 /* bursts.c: a burst's numbers to values, finding and peak. Every edge of the rounding and of the format at each of the 24 places, among zeros and
  * among usual numbers, and any bits at all, against the model; answers written out by hand, where the model is not asked; rooms to
- * spare; and the bursts of a whole frame, on to recovery. */
+ * spare; the processor's modes for floats; and the bursts of a whole frame, on to recovery. */
 #include "calls.h"
 #include "check.h"
 #include "heard.h"
@@ -10,6 +10,7 @@
 #include <inttypes.h>
 #include <math.h>
 #include <string.h>
+#include <xmmintrin.h>
 
 enum { PLACES = GLOAM_BURST_VALUES, MOST_EDGES = 4096, MOST_SPARE = 64 };
 #define COUNT(table) (sizeof(table) / sizeof *(table))
@@ -277,6 +278,37 @@ static void numbers_in_range(void)
     }
 }
 
+/* The processor's control register for floats: all traps off and results rounded to nearest, as a program starts; rounding down, up and toward
+ * zero; and each of these with subnormals taken for zeros. */
+enum { AS_STARTED = 0x1F80, ROUNDINGS = 4, ROUNDING = 0x2000, FLUSHED = 0x8040 };
+
+/* What was just judged comes again in every mode, byte for byte. */
+static void check_modes(const burst bits, gloam_quantised expected)
+{
+    float numbers[PLACES];
+    uint8_t values[PLACES];
+    memcpy(numbers, bits, sizeof numbers);
+    for (unsigned mode = 0; mode < 2 * ROUNDINGS; mode++) {
+        _mm_setcsr(AS_STARTED | mode % ROUNDINGS * ROUNDING | (mode < ROUNDINGS ? 0 : FLUSHED));
+        gloam_quantised answer = gloam_burst_quantise(numbers, PLACES, values, PLACES);
+        _mm_setcsr(AS_STARTED);
+        CHECK_NUMBER("finding in another mode", expected.finding, answer.finding);
+        CHECK_NUMBER("bits of the peak in another mode", bits_of(expected.peak), bits_of(answer.peak));
+        CHECK_BYTES("values in another mode", lent.values.bytes, values, PLACES);
+    }
+}
+
+static void every_mode(void)
+{
+    for (size_t at = 0; at < edges_count; at += is_short ? 7 : 1) {
+        burst bits;
+        fill_zeros(bits);
+        bits[at % PLACES] = edges[at];
+        check_case("bits %08" PRIx32 " in every mode", edges[at]);
+        check_modes(bits, check_burst(bits, 0));
+    }
+}
+
 /* The numbers of sub-packet s: within a half of what is heard. Every fifth is silent, and every seventh has a NaN. */
 static void make_numbers(const struct heard *heard, size_t s, float *numbers)
 {
@@ -340,6 +372,7 @@ int main(int argc, char **argv)
     in_each_layout("every edge among usual numbers", every_edge_among_usual_numbers);
     in_each_layout("rooms of 24 bytes and more", every_room);
     in_each_layout("any bits", any_bits);
+    in_each_layout("every rounding mode, subnormals flushed and not", every_mode);
     in_each_layout("numbers in range", numbers_in_range);
     check_group("quantising: the bursts of a frame, on to recovery");
     frames_of_bursts();

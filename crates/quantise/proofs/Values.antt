@@ -93,6 +93,9 @@ sides-raised v w h k = omega (arith, raised-minus v h, raised-plus w k)
 held-below : (u : ℕ) → held (nearestWhole u) ≤ 127
 held-below u = min-le-right (nearestWhole u) 127
 
+held-some : (n : ℕ) → 1 ≤ n → 0 < held n
+held-some n l = omega arith
+
 held-mono : {u v : ℕ} → u ≤ v → held (nearestWhole u) ≤ held (nearestWhole v)
 held-mono l = omega (arith, nearest-mono l)
 
@@ -106,6 +109,14 @@ ordered (minus {u} {v} l) = minus-raised (held (nearestWhole v)) (held (nearestW
 ordered (minusPlus {u} {v}) = sides-raised (held (nearestWhole u)) (held (nearestWhole v)) (held-below u) (held-below v)
 ordered (plus {u} {v} l) = plus-raised (held (nearestWhole u)) (held (nearestWhole v)) (held-below v) (held-mono l)
 ordered zeros = le-of-eq refl
+
+-- one half rounds to 1
+nearest-half : nearestWhole (2 ^ 148) ≡ 1
+unfolding nearestWhole
+nearest-half = refl
+
+speaks : (s : Bool) (u : ℕ) → 2 ^ 148 ≤ u → 0 < against s (valueOf (exactly s u))
+speaks s u l = rw (against-value s u .0) (held-some (nearestWhole u) (rw nearest-half at (nearest-mono l)))
 
 -- ---- distance, where half a unit is 2^148
 
@@ -150,6 +161,7 @@ values =
       ofNaN = of-nan;
       ofInfinity = λ s. value-is (infinite s);
       against = λ s u. against-value s u;
+      speaks = speaks;
       neverMinus128 = λ n e. never-128 (sideOf n) (sizeOf n) (value-is n .within) (sym (value-is n .byte) ∙ e);
       aByte = λ n. rw (value-is n .byte) (byte-below (sideOf n) (sizeOf n) (value-is n .within));
       opposites = opposites;

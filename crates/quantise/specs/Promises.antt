@@ -69,6 +69,8 @@ pub record Values : Type 0 where
   -- what recovery hears of a number: it stands against the bit that it does not say by its rounded magnitude, and against the other by nothing. A negative number says 0
   pub against :
       (s : Bool) (u : ℕ) → (coder.against s (valueOf (exactly s u)) ≡ held (nearestWhole u)) × (coder.against (not s) (valueOf (exactly s u)) ≡ 0)
+  -- and a magnitude of at least one half is never silent there
+  pub speaks : (s : Bool) (u : ℕ) → 2 ^ 148 ≤ u → 0 < coder.against s (valueOf (exactly s u))
   -- every value is from -127 to 127: no byte is ever -128
   pub neverMinus128 : (n : Number) → valueOf n ≡ 128 → ⊥
   pub aByte : (n : Number) → valueOf n < 256
