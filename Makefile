@@ -6,7 +6,7 @@
 # make fuzz               the same under libFuzzer, for SECONDS_EACH seconds a target
 # make floats             all 2^32 single-precision numbers through the archive, against a second computation in whole numbers
 # make drill A=path B=path CAPTURES=dir   hold one report program, or two, to the drill set or to a folder of captures
-# make bench              measure the four calls (and libosmocore's decoder where it is installed)
+# make bench              measure the five calls (and libosmocore's decoder where it is installed)
 # make clean              remove what was built
 
 .DEFAULT_GOAL := all

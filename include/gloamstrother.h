@@ -128,7 +128,8 @@ gloam_written gloam_uplink_build(uint64_t length, uint64_t mode,
  *   values   out  at least 24 bytes; any further ones are kept
  *
  * refusal 0: 24 bytes of values are written, byte p for number p, in two's complement: the nearest whole number, halves away from zero,
- * held at 127 and -127 (so never -128); an infinity is 127 or -127, a NaN 0. finding is
+ * held at 127 and -127 (so never -128); an infinity is 127 or -127, a NaN 0. The scale is the receiver's: what lies below one half says
+ * nothing, and what lies above 127 says no more than 127. finding is
  *   GLOAM_FAULTY  where a NaN is among the 24, also beside infinities; the other values are written as ever, and peak is +0
  *   GLOAM_SILENT  where all 24 are plus or minus zero; peak is +0
  *   GLOAM_HEARD   everywhere else; peak is the greatest magnitude of the 24, positive, and infinite where one of them is

@@ -7,6 +7,20 @@ ghost use Rattle.quantise.specs.Value.{valueOf, nearestWhole};
 ghost use Rattle.quantise.specs.Quantise.{Quantises};
 ghost use Rattle.quantise.specs.Parts.{unitsAt, Middling, Taken, TookIn, foundAt};
 
+// The sign's bit, and the least bit of the exponent: below it stands the fraction.
+const SIGN: u32 = 0x8000_0000;
+
+const EXPONENT: u32 = 0x80_0000;
+
+// The bits of an infinity without its sign, above which stand those of NaNs; those of a quarter, and of 127; those of one NaN.
+const INFINITY: u32 = 0x7f80_0000;
+
+const QUARTER: u32 = 0x3e80_0000;
+
+const LOUDEST: u32 = 0x42fe_0000;
+
+const NAN: u32 = 0x7fc0_0000;
+
 // What was found of a burst: heard, with the greatest magnitude among its numbers; silent, all of them zero; faulty, a NaN among them.
 pub enum Finding {
     Heard(f32),
@@ -24,7 +38,7 @@ pub enum Quantised {
 fn pattern(x: f32) -> u32
     ensures { λ r. ⌜ r ≡ toBits binary32 x ⌝ }
 {
-    if x != x { 0x7fc0_0000 } else { f32::to_bits(x) }
+    if x != x { NAN } else { f32::to_bits(x) }
 }
 
 // The greater of two numbers.
@@ -46,8 +60,8 @@ fn rounded(m: u32) -> u32
     requires { ⌜ Middling m ⌝ }
     ensures { λ r. ⌜ r ≡ nearestWhole (unitsAt m) ⌝ }
 {
-    let mantissa = 0x80_0000 + m % 0x80_0000;
-    let steps = m / 0x80_0000 - 125;
+    let mantissa = EXPONENT + m % EXPONENT;
+    let steps = m / EXPONENT - 125;
     ((mantissa << steps) + 0x100_0000) / 0x200_0000
 }
 
@@ -55,12 +69,12 @@ fn rounded(m: u32) -> u32
 fn value(b: u32) -> u8
     ensures { λ r. ⌜ r ≡ valueOf (numberOf b) ⌝ }
 {
-    let m = b % 0x8000_0000;
-    if 0x7f80_0000 < m {
+    let m = b % SIGN;
+    if INFINITY < m {
         return 0;
     }
-    let r = rounded(lesser(greater(m, 0x3e80_0000), 0x42fe_0000));
-    if b < 0x8000_0000 {
+    let r = rounded(lesser(greater(m, QUARTER), LOUDEST));
+    if b < SIGN {
         return r as u8;
     }
     ((256 - r) % 256) as u8
@@ -76,7 +90,7 @@ fn take_in(numbers: &[f32], values: &mut [u8]) -> u32
     while i < 24 {
         let b = pattern(numbers[i]);
         values[i] = value(b);
-        peak = greater(peak, b % 0x8000_0000);
+        peak = greater(peak, b % SIGN);
         i += 1;
     }
     peak
@@ -86,7 +100,7 @@ fn take_in(numbers: &[f32], values: &mut [u8]) -> u32
 fn found(peak: u32) -> Finding
     ensures { λ r. ⌜ r ≡ foundAt peak ⌝ }
 {
-    if 0x7f80_0000 < peak {
+    if INFINITY < peak {
         return Finding::Faulty;
     }
     if peak == 0 {
