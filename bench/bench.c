@@ -52,7 +52,7 @@ static void must(uint32_t refusal)
     }
 }
 
-/* The four calls on one frame; what they write lies beside it. */
+/* The calls on one frame; what they write lies beside it. */
 static void build(struct heard_frame *f)
 {
     must(gloam_uplink_build(f->l, 1, f->message, f->l, f->frame, GLOAM_FRAME_SIZE(f->l)).refusal);
@@ -215,19 +215,26 @@ static __attribute__((noinline, noclone)) uint32_t plain_quantise(const float *n
     return is_faulty ? GLOAM_FAULTY : most > 0 ? GLOAM_HEARD : GLOAM_SILENT;
 }
 
-/* The bursts in turn, by either. */
-static void quantise_plain(const float *numbers, uint8_t *values, float *peaks)
+/* What is made of the bursts, by either. */
+struct quantised {
+    uint8_t values[NUMBERS];
+    float peaks[BURSTS];
+    uint32_t findings[BURSTS];
+};
+
+static void quantise_plain(const float *numbers, struct quantised *made)
 {
     for (size_t b = 0; b < BURSTS; b++)
-        must(plain_quantise(numbers + 24 * b, values + 24 * b, peaks + b) == 0);
+        made->findings[b] = plain_quantise(numbers + 24 * b, made->values + 24 * b, made->peaks + b);
 }
 
-static void quantise(const float *numbers, uint8_t *values, float *peaks)
+static void quantise(const float *numbers, struct quantised *made)
 {
     for (size_t b = 0; b < BURSTS; b++) {
-        gloam_quantised answer = gloam_burst_quantise(numbers + 24 * b, GLOAM_BURST_VALUES, values + 24 * b, GLOAM_BURST_VALUES);
+        gloam_quantised answer = gloam_burst_quantise(numbers + 24 * b, GLOAM_BURST_VALUES, made->values + 24 * b, GLOAM_BURST_VALUES);
         must(answer.refusal);
-        peaks[b] = answer.peak;
+        made->findings[b] = answer.finding;
+        made->peaks[b] = answer.peak;
     }
 }
 
@@ -252,17 +259,17 @@ struct quantise_times {
 /* Both on the same numbers, in ns a burst. */
 static struct quantise_times measure_quantise(float (*number)(void))
 {
-    static float numbers[NUMBERS], peaks[BURSTS], plain_peaks[BURSTS];
-    static uint8_t values[NUMBERS], plain_values[NUMBERS];
+    static float numbers[NUMBERS];
+    static struct quantised made, plain;
     struct quantise_times best = {1e18, 1e18};
     for (size_t k = 0; k < NUMBERS; k++)
         numbers[k] = number();
     for (int round = 0; round < ROUNDS; round++) {
-        MEASURE(best.ours, QUANTISE_REPEATS, quantise(numbers, values, peaks));
-        MEASURE(best.plain, QUANTISE_REPEATS, quantise_plain(numbers, plain_values, plain_peaks));
+        MEASURE(best.ours, QUANTISE_REPEATS, quantise(numbers, &made));
+        MEASURE(best.plain, QUANTISE_REPEATS, quantise_plain(numbers, &plain));
     }
-    if (memcmp(values, plain_values, sizeof values) != 0 || memcmp(peaks, plain_peaks, sizeof peaks) != 0)
-        printf("note: the plain loop makes other values or peaks of these numbers\n");
+    if (memcmp(&made, &plain, sizeof made) != 0)
+        printf("note: the plain loop makes other values, peaks or findings of these numbers\n");
     return (struct quantise_times){best.ours / BURSTS, best.plain / BURSTS};
 }
 

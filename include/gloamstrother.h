@@ -100,7 +100,8 @@ typedef struct {
     uint32_t cost;
 } gloam_recovered;
 
-/* What quantising answers: refusal 0, the finding and, where that is GLOAM_HEARD, the peak; or the refusal, and finding is 0. Else peak is +0. */
+/* What quantising answers: refusal 0, the finding and, where that is GLOAM_HEARD, the peak; or the refusal, and finding is 0.
+ * Wherever finding is not GLOAM_HEARD, peak is +0. */
 typedef struct {
     uint32_t refusal;
     uint32_t finding;
@@ -137,12 +138,14 @@ gloam_written gloam_uplink_build(uint64_t length, uint64_t mode,
  * peak, if one number is not zero, be it subnormal. Else the first refusal that holds, in this order:
  *   2 numbers_count   3 values_size
  *
- * The processor's modes for floats, its rounding and whether it flushes subnormals to zero (as a program compiled with -ffast-math sets it
- * to), change no answer. A signalling NaN raises the flag of an invalid operation: only a program that lets that flag trap gets its signal.
+ * The processor's modes for floats, its rounding and whether it flushes subnormals to zero (as a program compiled with -ffast-math has it),
+ * change no answer; that is tested, since the proof knows no modes. A signalling NaN raises the flag of an invalid operation and a
+ * subnormal that of a denormal operand: only a program that lets these flags trap gets a signal.
  *
  * The 24 bytes are those of one sub-packet among the values of gloam_uplink_recover and gloam_capture_write, in their order, a negative
- * number saying 0 and a positive one 1: for sub-packet s give values + 24 * s. Its mark is the caller's to set. A heard burst is marked 1. For a silent or a faulty one the
- * receiver decides: marked 1, its zeros say nothing, and the other values of a faulty one count; marked 0, nothing of it counts. */
+ * number saying 0 and a positive one 1: for sub-packet s give values + 24 * s. Its mark is the caller's to set. A heard burst is marked 1.
+ * For a silent or a faulty one the receiver decides: marked 1, its zeros say nothing, and the other values of a faulty one count; marked 0,
+ * nothing of it counts. */
 gloam_quantised gloam_burst_quantise(const float *numbers, size_t numbers_count,
                                      uint8_t *values, size_t values_size);
 

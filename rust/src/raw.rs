@@ -1,7 +1,8 @@
 //! The calls as C has them, for a caller who holds pointers already.
 //!
 //! include/gloamstrother.h says what each takes and answers. What it leaves to the caller is left
-//! here too: a buffer is as long as its size says, and one that is written overlaps no other.
+//! here too: a buffer is as long as its size or count says, one of floats is aligned as they are, and
+//! one that is written overlaps no other.
 
 /// What writing answers: refusal 0 and the size that was written, or the refusal and 0.
 #[repr(C)]

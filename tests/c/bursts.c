@@ -1,5 +1,5 @@
 /* bursts.c: a burst's numbers to values, finding and peak. Every edge of the rounding and of the format at each of the 24 places, among zeros and
- * among usual numbers, and any bits at all, against the model; answers written out by hand, where the model is not asked; rooms to
+ * among usual numbers, and any bits at all, against the model; answers written out by hand beside it; rooms to
  * spare; the processor's modes for floats; and the bursts of a whole frame, on to recovery. */
 #include "calls.h"
 #include "check.h"
@@ -22,21 +22,14 @@ static bool is_short;
 /* A burst is kept as the bits of its numbers: no NaN is changed on its way. */
 typedef uint32_t burst[PLACES];
 
-static uint32_t bits_of(float number)
-{
-    uint32_t bits;
-    memcpy(&bits, &number, sizeof bits);
-    return bits;
-}
-
 static uint32_t edges[MOST_EDGES];
 static size_t edges_count;
 
 static void add_bits(uint32_t bits)
 {
-    if (edges_count < MOST_EDGES)
-        edges[edges_count] = bits;
-    edges_count++;
+    if (edges_count == MOST_EDGES)
+        check_stop("there are more edges than room for them");
+    edges[edges_count++] = bits;
 }
 
 /* A number and its neighbours in the format, and the same of its negative. */
@@ -116,7 +109,6 @@ static size_t next_place(size_t place)
 
 static void every_edge_among(void (*fill)(burst bits))
 {
-    CHECK_TRUE("there is room for all edges", edges_count <= MOST_EDGES);
     for (size_t at = 0; at < edges_count; at += is_short ? 7 : 1)
         for (size_t place = 0; place < PLACES; place = next_place(place)) {
             burst bits;
@@ -289,9 +281,11 @@ static void check_modes(const burst bits, gloam_quantised expected)
     uint8_t values[PLACES];
     memcpy(numbers, bits, sizeof numbers);
     for (unsigned mode = 0; mode < 2 * ROUNDINGS; mode++) {
+        memset(values, 0xEE, sizeof values);
         _mm_setcsr(AS_STARTED | mode % ROUNDINGS * ROUNDING | (mode < ROUNDINGS ? 0 : FLUSHED));
         gloam_quantised answer = gloam_burst_quantise(numbers, PLACES, values, PLACES);
         _mm_setcsr(AS_STARTED);
+        CHECK_NUMBER("refusal in another mode", GLOAM_DONE, answer.refusal);
         CHECK_NUMBER("finding in another mode", expected.finding, answer.finding);
         CHECK_NUMBER("bits of the peak in another mode", bits_of(expected.peak), bits_of(answer.peak));
         CHECK_BYTES("values in another mode", lent.values.bytes, values, PLACES);
@@ -323,7 +317,7 @@ static void one_frame(size_t length)
 {
     static struct heard heard;
     static uint8_t marks[GLOAM_MOST_MARKS_SIZE], values[GLOAM_MOST_VALUES_SIZE];
-    uint8_t sent[GLOAM_MOST_MESSAGE_SIZE], message[GLOAM_MOST_MESSAGE_SIZE];
+    uint8_t message[GLOAM_MOST_MESSAGE_SIZE];
     size_t marks_size = GLOAM_MARKS_SIZE(length), values_size = GLOAM_VALUES_SIZE(length);
     heard_make(&heard, length, 0);
     for (size_t s = 0; s < marks_size; s++) {
@@ -337,11 +331,11 @@ static void one_frame(size_t length)
             CHECK_BYTES("values", heard.values + 24 * s, values + 24 * s, PLACES);
     }
     check_case("length %zu", length);
-    gloam_uplink_recover(length, heard.marks, marks_size, heard.values, values_size, sent, length);
     gloam_recovered answer = gloam_uplink_recover(length, marks, marks_size, values, values_size, message, length);
     CHECK_NUMBER("recover's refusal", GLOAM_DONE, answer.refusal);
+    CHECK_NUMBER("recover's mode", heard.mode, answer.mode);
     CHECK_NUMBER("recover's cost", 0, answer.cost);
-    CHECK_BYTES("message", sent, message, length);
+    CHECK_BYTES("message", heard.message, message, length);
 }
 
 static void frames_of_bursts(void)

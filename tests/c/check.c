@@ -89,7 +89,7 @@ bool check_number(const char *file, int line, const char *what, uint64_t expecte
     return expected == seen;
 }
 
-static uint32_t bits_of(float number)
+uint32_t bits_of(float number)
 {
     uint32_t bits;
     memcpy(&bits, &number, sizeof bits);

@@ -7,6 +7,9 @@
 #include <stddef.h>
 #include <stdint.h>
 
+/* The bits of a float. */
+uint32_t bits_of(float number);
+
 /* Begins a group and ends the one before it. */
 void check_group(const char *format, ...) __attribute__((format(printf, 1, 2)));
 
@@ -19,7 +22,7 @@ void check_note(const char *format, ...) __attribute__((format(printf, 1, 2)));
 /* Ends the last group and prints `N passed, M failed`; what main returns. */
 int check_end(void);
 
-/* Ends the whole test from a signal: the group fails for this reason. */
+/* Ends the whole test at once, also from a signal: the group fails for this reason. */
 void check_stop(const char *reason);
 
 bool check_number(const char *file, int line, const char *what, uint64_t expected, uint64_t seen);

@@ -40,14 +40,15 @@ static void spoil_marks(struct heard *heard, unsigned spoilt)
 
 void heard_make(struct heard *heard, size_t length, unsigned spoilt)
 {
-    uint8_t message[GLOAM_MOST_MESSAGE_SIZE], bits[MODEL_MOST_BITS], frame[GLOAM_MOST_FRAME_SIZE];
-    for (size_t k = 0; k < length; k++)
-        message[k] = (uint8_t)(3 + 7 * k);
-    size_t count = model_payload(message, length, 1, bits);
-    spoil_bits(bits, count, spoilt);
-    model_frame(bits, length, frame);
+    uint8_t bits[MODEL_MOST_BITS], frame[GLOAM_MOST_FRAME_SIZE];
     memset(heard, 1, sizeof *heard);
     heard->length = length;
+    heard->mode = 1;
+    for (size_t k = 0; k < length; k++)
+        heard->message[k] = (uint8_t)(3 + 7 * k);
+    size_t count = model_payload(heard->message, length, heard->mode, bits);
+    spoil_bits(bits, count, spoilt);
+    model_frame(bits, length, frame);
     model_heard(frame, length, 9, heard->values);
     spoil_values(heard, spoilt);
     spoil_marks(heard, spoilt);

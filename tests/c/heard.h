@@ -20,6 +20,8 @@ enum {
 
 struct heard {
     size_t length;
+    uint32_t mode;
+    uint8_t message[GLOAM_MOST_MESSAGE_SIZE];
     uint8_t marks[GLOAM_MOST_MARKS_SIZE + 1], values[GLOAM_MOST_VALUES_SIZE + 24];
 };
 

@@ -1,4 +1,4 @@
--- What C gets of each operation: an answer that meets the operation's contract, in document 01's numbers, field by field.
+-- What C gets of each operation: an answer that meets the operation's contract, in its paper's numbers, field by field.
 -- To be believed: Hands, builtFields, recoveredFields, writtenFields, readFields, quantisedFields, version; NoSecond is what follows. Assumes nothing.
 use mathlib.Core.List.{List}
 use mathlib.Core.Path.{_≡_}

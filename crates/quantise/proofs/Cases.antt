@@ -17,6 +17,7 @@ cases =
       oddAndLarge = record { stands = refl; gives = refl };
       at126AndAHalf = record { stands = refl; gives = refl };
       justBelow126AndAHalf = record { stands = refl; gives = refl };
+      at127AndAHalf = record { stands = refl; gives = refl };
       at128 = record { stands = refl; gives = refl };
       atMinus128 = record { stands = refl; gives = refl };
       greatestNumber = record { stands = refl; gives = refl };

@@ -1,12 +1,12 @@
 -- The finding, and what the peak is among the numbers. Assumes nothing.
-use mathlib.Core.Bool.{false, not}
+use mathlib.Core.Bool.{true, false, not}
 use mathlib.Core.List.{List, [], _∷_}
 use mathlib.Core.Logic.{⊎-elim}
 use mathlib.Core.Path.{_≡_, sym, _∙_}
 use Prim.Native.Nat.{ℕ, zero, suc, _%_, _^_, _≤_, _<_}
 use native.Mathlib.Nat.{not-suc-le-zero, le-of-suc-le-suc, eq-zero-or-pos}
 use native.Mathlib.Omega.{arith}
-use borrow.Author.Tests.{ltb-false, le-ltb, eqb-false}
+use borrow.Author.Tests.{ltb-false, le-ltb, eqb-true, eqb-false}
 use lib.Dec.{T}
 use lib.Ieee.{Float, binary32, ofBits, toBits, isNan}
 use lib.Ieee.Bits.{toBits-ofBits, nanBits-is, nanBits-above}
@@ -42,6 +42,12 @@ greatest-one (b ∷ bs) h = ⊎-elim
 some-loud : (bs : List ℕ) → allZero bs ≡ false → 0 < greatest bs
 some-loud bs z = ⊎-elim (λ e. absurd (eqb-false (greatest bs) 0 (sym (all-zero bs) ∙ z) e)) (λ l. l) (eq-zero-or-pos (greatest bs))
 
+-- zeros are no NaNs
+zeros-no-nan : (bs : List ℕ) → allZero bs ≡ true → someNaN bs ≡ false
+zeros-no-nan bs z =
+    let none : greatest bs ≡ 0 = eqb-true (greatest bs) 0 (sym (all-zero bs) ∙ z) in
+    some-nan bs ∙ le-ltb infinity (greatest bs) (omega arith)
+
 module _ (bs : List ℕ) (no : someNaN bs ≡ false) where
   most-finite : greatest bs ≤ infinity
   most-finite = ltb-false infinity (greatest bs) (sym (some-nan bs) ∙ no)
@@ -74,6 +80,6 @@ module _ {numbers : List Float} {before after : List ℕ} {answer : Quantised} (
   findings =
       record {
         faulty = λ y. answered ∙ rw y;
-        silent = λ y z. answered ∙ rw (y, z);
+        silent = λ z. answered ∙ rw (zeros-no-nan (patterns numbers) z, z);
         heard = λ y z. (ofBits binary32 (peakOf (patterns numbers)), answered ∙ rw (y, z), peaks (patterns numbers) y z);
       }

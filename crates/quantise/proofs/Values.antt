@@ -10,7 +10,7 @@ use lib.Pow.{pow-pos}
 use Rattle.coder.specs.Cost.{weight, against}
 use Rattle.quantise.specs.Number.{Number, notANumber, infinite, exactly}
 use Rattle.quantise.specs.Value.{nearestWhole, held, byteOf, valueOf}
-use Rattle.quantise.specs.Promises.{distance, opposite, AtMost, same, fromMinusInfinity, toInfinity, infinities, minus, minusPlus, plus, zeros, Is, Values}
+use Rattle.quantise.specs.Promises.{distance, opposite, AtMost, infinity, fromMinusInfinity, toInfinity, infinities, minus, minusPlus, plus, zeros, Is, Values}
 use Rattle.quantise.proofs.Rounding.{nearest-mono}
 use Rattle.quantise.proofs.Nearest.{gap, nearest-same, nearest-other, tie-same, tie-other, half-free}
 
@@ -101,7 +101,7 @@ held-mono l = omega (arith, nearest-mono l)
 
 ordered : {x y : Number} → AtMost x y → (valueOf x + 128) % 256 ≤ (valueOf y + 128) % 256
 unfolding valueOf
-ordered {x} same = le-of-eq refl
+ordered infinity = le-of-eq refl
 ordered (fromMinusInfinity {s} {u}) = least-raised s (held (nearestWhole u)) (held-below u)
 ordered (toInfinity {s} {u}) = most-raised s (held (nearestWhole u)) (held-below u)
 ordered infinities = omega arith

@@ -28,6 +28,7 @@ pub record Cases : Type 0 where
   -- held at 127 and -127
   pub at126AndAHalf : At 0x42fd_0000 (exactly false (253 * 2 ^ 148)) 127
   pub justBelow126AndAHalf : At 0x42fc_ffff (exactly false ((253 * 2 ^ 16 - 1) * 2 ^ 132)) 126
+  pub at127AndAHalf : At 0x42ff_0000 (exactly false (255 * 2 ^ 148)) 127
   pub at128 : At 0x4300_0000 (exactly false (128 * 2 ^ 149)) 127
   pub atMinus128 : At 0xc300_0000 (exactly true (128 * 2 ^ 149)) 129
   pub greatestNumber : At 0x7f7f_ffff (exactly false ((2 ^ 24 - 1) * 2 ^ 253)) 127

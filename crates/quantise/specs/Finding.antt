@@ -20,7 +20,7 @@ isZero notANumber = false
 isZero (infinite s) = false
 isZero (exactly s u) = eqb u 0
 
--- the first is of greater magnitude than the second
+-- the first is of greater magnitude than the second; a NaN exceeds nothing, and nothing exceeds it
 abbrev pub exceeds : Number → Number → Bool
 exceeds notANumber n = false
 exceeds (infinite s) notANumber = false
@@ -42,7 +42,7 @@ allZero (b ∷ bs) = isZero (numberOf b) && allZero bs
 abbrev pub magnitude : ℕ → ℕ
 magnitude b = b % 2 ^ 31
 
--- the greatest magnitude: of those that come later and the first, whichever exceeds the other
+-- the bits of the greatest magnitude: the first number's where it exceeds the peak of the rest, else that peak
 unfoldable pub peakOf : List ℕ → ℕ
 peakOf [] = 0
 peakOf (b ∷ bs) = cond (exceeds (numberOf b) (numberOf (peakOf bs))) (magnitude b) (peakOf bs)

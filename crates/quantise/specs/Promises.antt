@@ -42,7 +42,7 @@ opposite (exactly s u) = exactly (not s) u
 
 -- the order of numbers; a NaN has no place in it
 pub data AtMost : Number → Number → Type 0 where
-  same : {n : Number} → AtMost n n
+  infinity : {s : Bool} → AtMost (infinite s) (infinite s)
   fromMinusInfinity : {s : Bool} {u : ℕ} → AtMost (infinite true) (exactly s u)
   toInfinity : {s : Bool} {u : ℕ} → AtMost (exactly s u) (infinite false)
   infinities : AtMost (infinite true) (infinite false)
@@ -66,7 +66,8 @@ pub record Values : Type 0 where
   -- "a NaN becomes 0"; "Infinities count as ±127"
   pub ofNaN : valueOf notANumber ≡ 0
   pub ofInfinity : (s : Bool) → Is (valueOf (infinite s)) s 127
-  -- what recovery hears of a number: it stands against the bit that it does not say by its rounded magnitude, and against the other by nothing. A negative number says 0
+  -- what recovery hears of a number: it stands against the bit that it does not say by its rounded magnitude, and against the other by nothing.
+  -- A negative number says 0 and so stands against 1: the sign minus and the bit 1 are both `true`
   pub against :
       (s : Bool) (u : ℕ) → (coder.against s (valueOf (exactly s u)) ≡ held (nearestWhole u)) × (coder.against (not s) (valueOf (exactly s u)) ≡ 0)
   -- and a magnitude of at least one half is never silent there
@@ -92,7 +93,7 @@ pub record Findings (numbers : List Float) (answer : Quantised) : Type 0 where
   -- "faulty because a NaN was present", whatever else is there
   pub faulty : someNaN (patterns numbers) ≡ true → answer ≡ Quantised-is.Done Faulty
   -- "Silent means that all 24 are plus or minus zero"
-  pub silent : someNaN (patterns numbers) ≡ false → allZero (patterns numbers) ≡ true → answer ≡ Quantised-is.Done Silent
+  pub silent : allZero (patterns numbers) ≡ true → answer ≡ Quantised-is.Done Silent
   -- "heard with its peak magnitude", in every other case; "Infinities count .. as the peak", since nothing exceeds one
   pub heard :
       someNaN (patterns numbers) ≡ false → allZero (patterns numbers) ≡ false

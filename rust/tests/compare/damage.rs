@@ -42,7 +42,7 @@ pub fn reading(random: &mut Random) -> Call {
     Call::ReadCapture { capture: capture.expect("a good capture"), marks, values }
 }
 
-/// One of the four calls, good in its form.
+/// One of the calls on frames and captures, good in its form.
 fn any_call(random: &mut Random) -> Call {
     match random.below(4) {
         0 => build(random),
@@ -52,7 +52,7 @@ fn any_call(random: &mut Random) -> Call {
     }
 }
 
-/// One of the four calls with one or two of its buffers of another size, or all of them empty.
+/// One of these calls with one or two of its buffers of another size, or all of them empty.
 pub fn sizes(random: &mut Random) -> Call {
     let mut call = any_call(random);
     if random.percent(10) {
