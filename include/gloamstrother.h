@@ -26,7 +26,7 @@
 extern "C" {
 #endif
 
-/* The version of this header: 100 for each minor version, so 200 for 0.2.0. It rises whenever this header changes. */
+/* The version of this header, 10000 major + 100 minor + patch: 200 is 0.2.0. It rises whenever this header changes. */
 #define GLOAM_VERSION 200
 
 /* gloam_version: the version of the archive. Compare it with GLOAM_VERSION once, when the program starts: where they differ, the program was

@@ -86,6 +86,6 @@ fn the_version_is_the_header_s_the_archive_s_and_the_release_s() {
     assert_eq!(archive_version(), VERSION);
     let release = text_of("../VERSION");
     assert_eq!(release.trim_end(), env!("CARGO_PKG_VERSION"));
-    let minor = release.strip_prefix("0.").and_then(|rest| rest.split_once('.')).unwrap().0;
-    assert_eq!(minor.parse::<u32>().unwrap() * 100, VERSION);
+    let parts: Vec<u32> = release.trim_end().split('.').map(|part| part.parse().unwrap()).collect();
+    assert_eq!(parts.iter().fold(0, |number, part| 100 * number + part), VERSION);
 }

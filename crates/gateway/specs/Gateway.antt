@@ -1,5 +1,6 @@
 -- What C gets of each operation: an answer that meets the operation's contract, in its paper's numbers, field by field.
--- To be believed: Hands, builtFields, recoveredFields, writtenFields, readFields, quantisedFields, version; NoSecond is what follows. Assumes nothing.
+-- To be believed: Hands, builtFields, recoveredFields, writtenFields, readFields, quantisedFields, version; NoSecond is
+-- what follows. Assumes nothing.
 use mathlib.Core.List.{List}
 use mathlib.Core.Path.{_≡_}
 use Prim.Native.Nat.{ℕ}
@@ -22,7 +23,7 @@ use Rattle.gateway.specs.declared.GloamRead.{GloamRead}
 use Rattle.gateway.specs.declared.GloamRecovered.{GloamRecovered}
 use Rattle.gateway.specs.declared.GloamQuantised.{GloamQuantised}
 
--- the version of the interface: 100 times the minor number of the file VERSION
+-- the version of the interface, from the three numbers of the file VERSION: 10,000 major + 100 minor + patch
 abbrev pub version : ℕ
 version = 200
 

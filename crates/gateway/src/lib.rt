@@ -1,4 +1,5 @@
-// The C interface, as include/gloamstrother.h tells it: build and recover, the stored capture both ways, and the values of a burst, each handing on just what the operation answers. None asks anything of its caller.
+// The C interface, as include/gloamstrother.h tells it: build and recover, the stored capture both ways, and the values
+// of a burst, each handing on just what the operation answers. None asks anything of its caller.
 use capture::Read;
 use capture::Written;
 use quantise::Finding;
@@ -36,7 +37,8 @@ pub struct GloamRecovered {
     pub cost: u32,
 }
 
-// gloam_quantised: 0, the finding (1 heard, 2 silent, 3 faulty) and the peak of one that is heard, or the refusal; what does not hold is 0.
+// gloam_quantised: 0, the finding (1 heard, 2 silent, 3 faulty) and the peak of one that is heard, or the refusal; what
+// does not hold is 0.
 #[repr(C)]
 pub struct GloamQuantised {
     pub refusal: u32,
@@ -44,7 +46,7 @@ pub struct GloamQuantised {
     pub peak: f32,
 }
 
-// The version of this interface, 100 times the minor number.
+// The version of this interface.
 #[no_mangle]
 pub extern "C" fn gloam_version() -> u32
     ensures { λ r. ⌜ r ≡ version ⌝ }

@@ -1,4 +1,5 @@
--- The value of a number from its bits, as the code makes it: with the bits held between a quarter's and 127's. Assumes nothing.
+-- The value of a number from its bits, as the code makes it: with the bits held between a quarter's and 127's.
+-- Assumes nothing.
 use mathlib.Core.Bool.{Bool}
 use mathlib.Core.Logic.{⊎-elim}
 use mathlib.Core.Path.{_≡_, refl, ap, _∙_}

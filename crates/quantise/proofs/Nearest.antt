@@ -1,4 +1,5 @@
--- Rounding is to the nearest whole number, halves away from zero, held at 127: over any unit d of two halves h. Assumes nothing.
+-- Rounding is to the nearest whole number, halves away from zero, held at 127: over any unit d of two halves h.
+-- Assumes nothing.
 use mathlib.Core.Logic.{⊎-elim}
 use mathlib.Core.Path.{_≡_, ap}
 use Prim.Native.Nat.{ℕ, _+_, _-_, _*_, _/_, _%_, _≤_, _<_, min}

@@ -1,4 +1,5 @@
--- What bits stand for, told by their order without the sign: above an infinity's they are no number, below they are exactly so many 2^-149. Assumes nothing.
+-- What bits stand for, told by their order without the sign: above an infinity's they are no number, below they are
+-- exactly so many 2^-149. Assumes nothing.
 use mathlib.Core.Bool.{Bool, true, false, cond}
 use mathlib.Core.Path.{_≡_, refl, ap, _∙_}
 use Prim.Native.Nat.{ℕ, _*_, _%_, _^_, _<_}

@@ -1,4 +1,5 @@
--- What each answer says in numbers: refusal 0 where it is done, and then the finding: 1 heard, 2 silent, 3 faulty, and the peak of one that is heard; else the refusal's number. What does not hold is 0.
+-- What each answer says in numbers: refusal 0 where it is done, and then the finding: 1 heard, 2 silent, 3 faulty,
+-- and the peak of one that is heard; else the refusal's number. What does not hold is 0.
 -- To be believed: all of it. Assumes nothing.
 use Prim.Native.Nat.{ℕ}
 use lib.Ieee.{Float, binary32, ofBits}

@@ -41,7 +41,8 @@ pub record Cases : Type 0 where
   pub minusInfinity : At 0xff80_0000 (infinite true) 129
   pub quietNaN : At 0x7fc0_0000 notANumber 0
   pub signallingNaN : At 0xff80_0001 notANumber 0
-  -- findings: zeros of both signs; one number that is not zero among them, though every value is 0; an infinity; a NaN beside it
+  -- findings: zeros of both signs; one number that is not zero among them, though every value is 0; an infinity; a
+  -- NaN beside it
   pub zeros : findingOf (0x8000_0000 ∷ replicate 23 0) ≡ Silent
   pub leastAmongZeros : findingOf (0x8000_0001 ∷ replicate 23 0) ≡ Heard (ofBits binary32 0x0000_0001)
   pub infinityAmongZeros : findingOf (0xff80_0000 ∷ replicate 23 0) ≡ Heard (ofBits binary32 0x7f80_0000)

@@ -1,4 +1,5 @@
--- The finding of a burst, #101: "heard with its peak magnitude, silent, or faulty because a NaN was present". Over the bits of its numbers.
+-- The finding of a burst, #101: "heard with its peak magnitude, silent, or faulty because a NaN was present". Over
+-- the bits of its numbers.
 -- To be believed: all of it. What the peak is among the 24 is `Peaks` of Promises. Assumes nothing.
 use mathlib.Core.Bool.{Bool, true, false, cond, _&&_, _||_}
 use mathlib.Core.List.{List, [], _∷_}
@@ -47,7 +48,8 @@ unfoldable pub peakOf : List ℕ → ℕ
 peakOf [] = 0
 peakOf (b ∷ bs) = cond (exceeds (numberOf b) (numberOf (peakOf bs))) (magnitude b) (peakOf bs)
 
--- "faulty because a NaN was present", whatever else is there; "Silent means that all 24 are plus or minus zero"; else heard with its peak
+-- "faulty because a NaN was present", whatever else is there; "Silent means that all 24 are plus or minus zero"; else
+-- heard with its peak
 unfoldable pub findingOf : List ℕ → Finding
 unfolding someNaN allZero peakOf
 findingOf bs = cond (someNaN bs) Faulty (cond (allZero bs) Silent (Heard (ofBits binary32 (peakOf bs))))

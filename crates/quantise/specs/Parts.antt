@@ -1,4 +1,5 @@
--- What the functions of this crate ask and give. Nothing here has to be believed: what is promised is said by Quantise alone.
+-- What the functions of this crate ask and give. Nothing here has to be believed: what is promised is said by
+-- Quantise alone.
 -- Assumes nothing.
 use mathlib.Core.Bool.{cond}
 use mathlib.Core.List.{List, [], _∷_}

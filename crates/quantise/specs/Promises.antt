@@ -25,7 +25,8 @@ Stands nan n = n ≡ notANumber
 Stands (inf s) n = n ≡ infinite s
 Stands (fin s m e) n = (u : ℕ) × (n ≡ exactly s u) × (m * up e * 2 ^ 149 ≡ u * down e)
 
--- "The exact value of the float, written over whole numbers from its bits, is the yardstick": every number of the format is just what its bits say
+-- "The exact value of the float, written over whole numbers from its bits, is the yardstick": every number of the
+-- format is just what its bits say
 abbrev pub Account : Type 0
 Account = (x : Float) → T (fits binary32 x) → Stands x (numberOf (toBits binary32 x))
 
@@ -66,7 +67,8 @@ pub record Values : Type 0 where
   -- "a NaN becomes 0"; "Infinities count as ±127"
   pub ofNaN : valueOf notANumber ≡ 0
   pub ofInfinity : (s : Bool) → Is (valueOf (infinite s)) s 127
-  -- what recovery hears of a number: it stands against the bit that it does not say by its rounded magnitude, and against the other by nothing.
+  -- what recovery hears of a number: it stands against the bit that it does not say by its rounded magnitude, and
+  -- against the other by nothing.
   -- A negative number says 0 and so stands against 1: the sign minus and the bit 1 are both `true`
   pub against :
       (s : Bool) (u : ℕ) → (coder.against s (valueOf (exactly s u)) ≡ held (nearestWhole u)) × (coder.against (not s) (valueOf (exactly s u)) ≡ 0)

@@ -1,5 +1,7 @@
--- Quantising a burst, #101: 24 numbers to 24 values and a finding. "Refusals: 2 unless there are exactly 24 numbers, then 3."
--- To be believed: patterns, valuesOf, quantiseRefusal, Quantises. A number's bits are the kit's `toBits`; `Account` of Promises says that they tell its exact value. Assumes nothing.
+-- Quantising a burst, #101: 24 numbers to 24 values and a finding. "Refusals: 2 unless there are exactly 24 numbers,
+-- then 3."
+-- To be believed: patterns, valuesOf, quantiseRefusal, Quantises. A number's bits are the kit's `toBits`; `Account`
+-- of Promises says that they tell its exact value. Assumes nothing.
 use mathlib.Core.Bool.{cond}
 use mathlib.Core.List.{List, map, _++_}
 use mathlib.Core.Path.{_≡_}

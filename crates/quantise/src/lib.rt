@@ -1,4 +1,5 @@
-// The numbers of one burst, as the front end hands them out, to the values that recovery takes, with a finding (#101). It asks nothing of its caller.
+// The numbers of one burst, as the front end hands them out, to the values that recovery takes, with a finding
+// (#101). It asks nothing of its caller.
 ghost use mathlib.Core.Path.{_≡_};
 ghost use Prim.Native.Nat.{min, max};
 ghost use lib.Ieee.{binary32, toBits};
@@ -12,7 +13,8 @@ const SIGN: u32 = 0x8000_0000;
 
 const EXPONENT: u32 = 0x80_0000;
 
-// The bits of an infinity without its sign, above which stand those of NaNs; those of a quarter, and of 127; those of one NaN.
+// The bits of an infinity without its sign, above which stand those of NaNs; those of a quarter, and of 127; those of
+// one NaN.
 const INFINITY: u32 = 0x7f80_0000;
 
 const QUARTER: u32 = 0x3e80_0000;
@@ -21,7 +23,8 @@ const LOUDEST: u32 = 0x42fe_0000;
 
 const NAN: u32 = 0x7fc0_0000;
 
-// What was found of a burst: heard, with the greatest magnitude among its numbers; silent, all of them zero; faulty, a NaN among them.
+// What was found of a burst: heard, with the greatest magnitude among its numbers; silent, all of them zero; faulty,
+// a NaN among them.
 pub enum Finding {
     Heard(f32),
     Silent,
@@ -55,7 +58,8 @@ fn lesser(a: u32, b: u32) -> u32
     if a < b { a } else { b }
 }
 
-// The magnitude with these bits, from a quarter to 127, to the nearest whole number, halves up: one shift makes it a whole number of 2^-25.
+// The magnitude with these bits, from a quarter to 127, to the nearest whole number, halves up: one shift makes it a
+// whole number of 2^-25.
 fn rounded(m: u32) -> u32
     requires { ⌜ Middling m ⌝ }
     ensures { λ r. ⌜ r ≡ nearestWhole (unitsAt m) ⌝ }
@@ -65,7 +69,8 @@ fn rounded(m: u32) -> u32
     ((mantissa << steps) + 0x100_0000) / 0x200_0000
 }
 
-// The value of the number with these bits. Below a quarter everything rounds to 0, as a quarter does, and above 127 everything is held at 127.
+// The value of the number with these bits. Below a quarter everything rounds to 0, as a quarter does, and above 127
+// everything is held at 127.
 fn value(b: u32) -> u8
     ensures { λ r. ⌜ r ≡ valueOf (numberOf b) ⌝ }
 {
@@ -96,7 +101,8 @@ fn take_in(numbers: &[f32], values: &mut [u8]) -> u32
     peak
 }
 
-// The finding of a burst whose greatest bits without signs are these: a NaN's are above an infinity's, and an infinity's above all others.
+// The finding of a burst whose greatest bits without signs are these: a NaN's are above an infinity's, and an
+// infinity's above all others.
 fn found(peak: u32) -> Finding
     ensures { λ r. ⌜ r ≡ foundAt peak ⌝ }
 {
@@ -109,7 +115,8 @@ fn found(peak: u32) -> Finding
     Finding::Heard(f32::from_bits(peak))
 }
 
-// The values of 24 numbers to the start of `values`, and what was found; or the first refusal that holds of 2, 3, and then nothing is written.
+// The values of 24 numbers to the start of `values`, and what was found; or the first refusal that holds of 2, 3, and
+// then nothing is written.
 pub fn quantise(numbers: &[f32], values: &mut [u8]) -> Quantised
     ensures { λ r. ⌜ Quantises (now (numbers .entry)) (now (values .entry)) (now (values .exit)) r ⌝ }
 {

@@ -1,4 +1,5 @@
--- `quantise::value` meets its contract: holding the bits between a quarter's and 127's holds what is rounded. Assumes nothing.
+-- `quantise::value` meets its contract: holding the bits between a quarter's and 127's holds what is rounded. Assumes
+-- nothing.
 use mathlib.Core.Path.{sym, ap, _∙_}
 use Prim.Native.Nat.{ℕ, _-_, _%_}
 use native.Mathlib.Omega.{arith}
