@@ -1,20 +1,25 @@
 /* gloamstrother.h: the uplink of telegram splitting (ETSI TS 103 357, TS-UNB, ULP rate) for C99 and C++.
  *
- * Five calls over the archive libgateway.a: a message to the bits of its bursts (gloam_uplink_build), a receiver's numbers of one burst to
- * soft values (gloam_burst_quantise), soft values back to the message behind the nearest string of all (gloam_uplink_recover), and the
- * stored capture of what was heard, both ways (gloam_capture_write, gloam_capture_read). Each is proved for every input: it ends, and
- * answers what is said here and nothing else. And the archive's version (gloam_version).
+ * Five calls over the archive libgateway.a: a message to the bits of its bursts (gloam_uplink_build), a receiver's
+ * numbers of one burst to soft values (gloam_burst_quantise), soft values back to the message behind the nearest string
+ * of all (gloam_uplink_recover), and the stored capture of what was heard, both ways (gloam_capture_write,
+ * gloam_capture_read). Each is proved for every input: it ends, and answers what is said here and nothing else. And the
+ * archive's version (gloam_version).
  *
  * What holds for all five:
- *   - Buffers are lent for the call only. Nothing is kept, allocated or freed, and no byte outside them is read or written.
- *   - A buffer is a pointer and its size in bytes, one of floats a pointer and the count of its floats; (NULL, 0) is an empty one.
- *   - Any number and any size may be given: what cannot be taken is refused by its number, the first that holds in the order stated with the
- *     call. A refusal writes nothing, and the other fields of the answer are 0.
+ *   - Buffers are lent for the call only. Nothing is kept, allocated or freed, and no byte outside them is read or
+ *     written.
+ *   - A buffer is a pointer and its size in bytes, one of floats a pointer and the count of its floats; (NULL, 0) is an
+ *     empty one.
+ *   - Any number and any size may be given: what cannot be taken is refused by its number, the first that holds in the
+ *     order stated with the call. A refusal writes nothing, and the other fields of the answer are 0.
  *   - refusal 0 means done; then the other fields hold, and what the call writes is written. Bytes beyond are kept.
- *   - There is no state: calls may be made from any number of threads at once, as long as no buffer that one of them writes is lent to another.
- *   - Stack: 16 kB are enough for gloam_uplink_build, 32 kB for gloam_uplink_recover, 4 kB for gloam_burst_quantise and for the captures.
- * What the caller owes, since no call can test it: each buffer is as long as its size or count says, one of floats is aligned as C wants
- * a float to be, and one that is written overlaps no other.
+ *   - There is no state: calls may be made from any number of threads at once, as long as no buffer that one of them
+ *     writes is lent to another.
+ *   - Stack: 16 kB are enough for gloam_uplink_build, 32 kB for gloam_uplink_recover, 4 kB for gloam_burst_quantise and
+ *     for the captures.
+ * What the caller owes, since no call can test it: each buffer is as long as its size or count says, one of floats is
+ * aligned as C wants a float to be, and one that is written overlaps no other.
  */
 #ifndef GLOAMSTROTHER_H
 #define GLOAMSTROTHER_H
@@ -29,9 +34,10 @@ extern "C" {
 /* The version of this header, 10000 major + 100 minor + patch: 200 is 0.2.0. It rises whenever this header changes. */
 #define GLOAM_VERSION 200
 
-/* gloam_version: the version of the archive. Compare it with GLOAM_VERSION once, when the program starts: where they differ, the program was
- * compiled with the header of one version and linked with the archive of another, and no call may be trusted: fields and meanings may have
- * moved. Install both anew from one version, and compile and link again. Archives before 0.2.0 have no gloam_version: linking fails. */
+/* gloam_version: the version of the archive. Compare it with GLOAM_VERSION once, when the program starts: where they
+ * differ, the program was compiled with the header of one version and linked with the archive of another, and no call
+ * may be trusted: fields and meanings may have moved. Install both anew from one version, and compile and link again.
+ * Archives before 0.2.0 have no gloam_version: linking fails. */
 uint32_t gloam_version(void);
 
 /* The least and the greatest length of a message, in bytes. */
@@ -100,8 +106,8 @@ typedef struct {
     uint32_t cost;
 } gloam_recovered;
 
-/* What quantising answers: refusal 0, the finding and, where that is GLOAM_HEARD, the peak; or the refusal, and finding is 0.
- * Wherever finding is not GLOAM_HEARD, peak is +0. */
+/* What quantising answers: refusal 0, the finding and, where that is GLOAM_HEARD, the peak; or the refusal, and finding
+ * is 0. Wherever finding is not GLOAM_HEARD, peak is +0. */
 typedef struct {
     uint32_t refusal;
     uint32_t finding;
@@ -124,28 +130,32 @@ gloam_written gloam_uplink_build(uint64_t length, uint64_t mode,
 
 /* gloam_burst_quantise: the numbers of one received burst as values, and what is found in them.
  *
- *   numbers  in   exactly GLOAM_BURST_VALUES = 24 floats (IEEE 754, single precision) of any value at all, aligned as C wants them and only
- *                 read; numbers_count counts floats, not bytes
+ *   numbers  in   exactly GLOAM_BURST_VALUES = 24 floats (IEEE 754, single precision) of any value at all, aligned as
+ *                 C wants them and only read; numbers_count counts floats, not bytes
  *   values   out  at least 24 bytes; any further ones are kept
  *
- * refusal 0: 24 bytes of values are written, byte p for number p, in two's complement: the nearest whole number, halves away from zero,
- * held at 127 and -127 (so never -128); an infinity is 127 or -127, a NaN 0. The scale is the receiver's: what lies below one half says
- * nothing, and what lies above 127 says no more than 127. finding is
- *   GLOAM_FAULTY  where a NaN is among the 24, also beside infinities; the other values are written as ever, and peak is +0
+ * refusal 0: 24 bytes of values are written, byte p for number p, in two's complement: the nearest whole number,
+ * halves away from zero, held at 127 and -127 (so never -128); an infinity is 127 or -127, a NaN 0. The scale is the
+ * receiver's: what lies below one half says nothing, and what lies above 127 says no more than 127. finding is
+ *   GLOAM_FAULTY  where a NaN is among the 24, also beside infinities; the other values are written as ever, and peak
+ *                 is +0
  *   GLOAM_SILENT  where all 24 are plus or minus zero; peak is +0
- *   GLOAM_HEARD   everywhere else; peak is the greatest magnitude of the 24, positive, and infinite where one of them is
- * The numbers are judged and not their bytes: where all magnitudes are below one half, all bytes are 0, and yet the burst is heard, with its
- * peak, if one number is not zero, be it subnormal. Else the first refusal that holds, in this order:
+ *   GLOAM_HEARD   everywhere else; peak is the greatest magnitude of the 24, positive, and infinite where one of them
+ *                 is
+ * The numbers are judged and not their bytes: where all magnitudes are below one half, all bytes are 0, and yet the
+ * burst is heard, with its peak, if one number is not zero, be it subnormal. Else the first refusal that holds, in
+ * this order:
  *   2 numbers_count   3 values_size
  *
- * The processor's modes for floats, its rounding and whether it flushes subnormals to zero (as a program compiled with -ffast-math has it),
- * change no answer; that is tested, since the proof knows no modes. A signalling NaN raises the flag of an invalid operation and a
- * subnormal that of a denormal operand: only a program that lets these flags trap gets a signal.
+ * The processor's modes for floats, its rounding and whether it flushes subnormals to zero (as a program compiled with
+ * -ffast-math has it), change no answer; that is tested, since the proof knows no modes. A signalling NaN raises the
+ * flag of an invalid operation and a subnormal that of a denormal operand: only a program that lets these flags trap
+ * gets a signal.
  *
- * The 24 bytes are those of one sub-packet among the values of gloam_uplink_recover and gloam_capture_write, in their order, a negative
- * number saying 0 and a positive one 1: for sub-packet s give values + 24 * s. Its mark is the caller's to set. A heard burst is marked 1.
- * For a silent or a faulty one the receiver decides: marked 1, its zeros say nothing, and the other values of a faulty one count; marked 0,
- * nothing of it counts. */
+ * The 24 bytes are those of one sub-packet among the values of gloam_uplink_recover and gloam_capture_write, in their
+ * order, a negative number saying 0 and a positive one 1: for sub-packet s give values + 24 * s. Its mark is the
+ * caller's to set. A heard burst is marked 1. For a silent or a faulty one the receiver decides: marked 1, its zeros
+ * say nothing, and the other values of a faulty one count; marked 0, nothing of it counts. */
 gloam_quantised gloam_burst_quantise(const float *numbers, size_t numbers_count,
                                      uint8_t *values, size_t values_size);
 

@@ -33,9 +33,6 @@ unfolding greatest
 filling-start {numbers} {old} t = record { within = omega arith; taken = t; sized = refl; done = appends-none old 0; most = refl }
 
 module _ {numbers : List Float} {old out : List ℕ} {peak i : ℕ} (p : Filling numbers old out peak i) (h : i < 24) where
-  bits : ℕ
-  bits = toBits binary32 (getD numbers i nan)
-
   patterns-more : patterns (take (i + 1) numbers) ≡ patterns (take i numbers) ++ (toBits binary32 (getD numbers i nan) ∷ [])
   patterns-more =
       let l : i < length numbers = omega (arith, p .taken .count) in

@@ -9,8 +9,8 @@ use borrow.Author.Tests.{lt-ltb, le-ltb, ne-eqb}
 use lib.Dec.{ltb, eqb}
 use Rattle.quantise.specs.Number.{unitsOf, numberOf}
 use Rattle.quantise.specs.Finding.{isNaN, isZero, exceeds, someNaN, allZero, magnitude, peakOf, findingOf}
-use Rattle.quantise.specs.Parts.{unitsAt, greatest, foundAt}
-use Rattle.quantise.proofs.Numbers.{infinity, number-nan, number-infinite, number-exactly}
+use Rattle.quantise.specs.Parts.{unitsAt, infinity, greatest, foundAt}
+use Rattle.quantise.proofs.Numbers.{number-nan, number-infinite, number-exactly}
 use Rattle.quantise.proofs.Order.{less-or-not, same-order, same-zero, some-above, both-zero, cond-max}
 use Rattle.quantise.proofs.Units.{units-less, units-most}
 

@@ -2,16 +2,12 @@
 -- exactly so many 2^-149. Assumes nothing.
 use mathlib.Core.Bool.{Bool, true, false, cond}
 use mathlib.Core.Path.{_≡_, refl, ap, _∙_}
-use Prim.Native.Nat.{ℕ, _*_, _%_, _^_, _<_}
+use Prim.Native.Nat.{ℕ, _%_, _^_, _<_}
 use native.Mathlib.Omega.{arith}
 use borrow.Author.Tests.{eq-eqb, ne-eqb}
 use lib.Dec.{eqb}
 use Rattle.quantise.specs.Number.{notANumber, infinite, exactly, signOf, exponentOf, fractionOf, unitsOf, numberOf}
-use Rattle.quantise.specs.Parts.{unitsAt}
-
--- the bits of an infinity without its sign
-abbrev pub infinity : ℕ
-infinity = 255 * 2 ^ 23
+use Rattle.quantise.specs.Parts.{unitsAt, infinity}
 
 chosen : (b : ℕ) (p q : Bool) → eqb (exponentOf b) 255 ≡ p → eqb (fractionOf b) 0 ≡ q
     → numberOf b ≡ cond p (cond q (infinite (signOf b)) notANumber) (exactly (signOf b) (unitsOf (exponentOf b) (fractionOf b)))

@@ -17,8 +17,7 @@ use Rattle.quantise.specs.declared.Quantised.the-variants as Quantised-i
 use Rattle.quantise.specs.Answers.{quantisedRefusal}
 use Rattle.quantise.specs.Quantise.{patterns, Quantises}
 use Rattle.quantise.specs.Promises.{Peaks, Findings}
-use Rattle.quantise.specs.Parts.{greatest}
-use Rattle.quantise.proofs.Numbers.{infinity}
+use Rattle.quantise.specs.Parts.{infinity, greatest}
 use Rattle.quantise.proofs.Order.{less-or-not}
 use Rattle.quantise.proofs.Findings.{exceeds-order, some-nan, all-zero, greatest-below, peak-greatest}
 

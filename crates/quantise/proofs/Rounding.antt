@@ -1,5 +1,5 @@
 -- Rounding at a coarser scale, and what holding the bits between a quarter's and 127's keeps. Assumes nothing.
-use mathlib.Core.Logic.{_⊎_, ⊎-elim}
+use mathlib.Core.Logic.{⊎-elim}
 use mathlib.Core.Path.{_≡_, refl, sym, ap, _∙_}
 use Prim.Native.Nat.{ℕ, zero, suc, _+_, _-_, _*_, _/_, _%_, _^_, _≤_, _<_, min, max}
 use native.Mathlib.Nat.{mul-assoc, add-mul, mul-div-mul-right, min-eq-left, min-eq-right, le-trans, le-of-lt, mul-le-mul-left}
@@ -7,7 +7,7 @@ use native.Mathlib.Omega.{arith}
 use lib.Pow.{pow-pos, pow-mono, pow-add, shr-mono}
 use Rattle.quantise.specs.Number.{unitsOf}
 use Rattle.quantise.specs.Value.{nearestWhole, held}
-use Rattle.quantise.specs.Parts.{unitsAt, Middling}
+use Rattle.quantise.specs.Parts.{unitsAt, quarter, loudest, Middling}
 use Rattle.quantise.proofs.Order.{less-or-not}
 use Rattle.quantise.proofs.Units.{units-most}
 
@@ -32,12 +32,12 @@ nearest-scaled {m} p =
     ap (λ (u : ℕ). (u + 2 ^ 148) / 2 ^ 149) (units-scaled (m / 2 ^ 23) (m % 2 ^ 23) (omega (arith, p .low))) ∙ coarser (scaled m) (2 ^ 124) (pow-pos 124)
 
 -- what is shifted stays within 127 times 2^25
-most-shifted : (k t p : ℕ) → p ≤ 2 ^ 7 → t < 2 ^ 23 → (2 ^ 23 + t) * p ≤ 127 * 2 ^ 25
-most-shifted k t p h l = le-trans (mul-le-mul-left (2 ^ 23 + t) h) (omega arith)
+most-shifted : (t p : ℕ) → p ≤ 2 ^ 7 → t < 2 ^ 23 → (2 ^ 23 + t) * p ≤ 127 * 2 ^ 25
+most-shifted t p h l = le-trans (mul-le-mul-left (2 ^ 23 + t) h) (omega arith)
 
 pub scaled-most : {m : ℕ} → Middling m → scaled m ≤ 127 * 2 ^ 25
 scaled-most {m} p = ⊎-elim
-    (λ (l : m / 2 ^ 23 - 125 < 8). most-shifted 0 (m % 2 ^ 23) (2 ^ (m / 2 ^ 23 - 125)) (pow-mono {i = m / 2 ^ 23 - 125} {j = 7} (omega arith)) (omega arith))
+    (λ (l : m / 2 ^ 23 - 125 < 8). most-shifted (m % 2 ^ 23) (2 ^ (m / 2 ^ 23 - 125)) (pow-mono {i = m / 2 ^ 23 - 125} {j = 7} (omega arith)) (omega arith))
     (λ (g : 8 ≤ m / 2 ^ 23 - 125).
     let e : m / 2 ^ 23 - 125 ≡ 8 = omega (arith, p .high) in
     let f : m % 2 ^ 23 ≤ 63 * 2 ^ 17 = omega (arith, p .high) in
@@ -52,12 +52,6 @@ unfolding nearestWhole
 nearest-mono {u} {v} h = shr-mono 149 (plus-mono u v (2 ^ 148) h)
 
 -- a quarter rounds to 0, and 127 to itself
-abbrev pub quarter : ℕ
-quarter = 125 * 2 ^ 23
-
-abbrev pub loudest : ℕ
-loudest = 133 * 2 ^ 23 + 63 * 2 ^ 17
-
 nearest-quarter : nearestWhole (unitsAt quarter) ≡ 0
 unfolding nearestWhole unitsAt unitsOf
 nearest-quarter = refl

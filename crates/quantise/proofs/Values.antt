@@ -3,15 +3,16 @@ use mathlib.Core.Bool.{Bool, true, false, not}
 use mathlib.Core.Logic.{⊎-elim}
 use mathlib.Core.Path.{_≡_, refl, sym, _∙_}
 use Prim.Native.Nat.{ℕ, _+_, _-_, _*_, _%_, _^_, _≤_, _<_}
-use native.Mathlib.Nat.{min-le-right, le-of-eq, eq-zero-or-pos}
+use native.Mathlib.Nat.{le-of-eq, eq-zero-or-pos}
 use native.Mathlib.Omega.{arith}
 use borrow.Author.Tests.{le-leb, lt-leb}
 use lib.Pow.{pow-pos}
 use Rattle.coder.specs.Cost.{weight, against}
 use Rattle.quantise.specs.Number.{Number, notANumber, infinite, exactly}
 use Rattle.quantise.specs.Value.{nearestWhole, held, byteOf, valueOf}
-use Rattle.quantise.specs.Promises.{distance, opposite, AtMost, infinity, fromMinusInfinity, toInfinity, infinities, minus, minusPlus, plus, zeros, Is, Values}
+use Rattle.quantise.specs.Promises.{distance, opposite, AtMost, infinity, fromMinusInfinity, toInfinity, infinities, minus, minusPlus, plus, zeros, Is, Rounds, Values}
 use Rattle.quantise.proofs.Rounding.{nearest-mono}
+use Rattle.quantise.proofs.Held.{valueOf-nan, valueOf-infinite, valueOf-exactly, held-below}
 use Rattle.quantise.proofs.Nearest.{gap, nearest-same, nearest-other, tie-same, tie-other, half-free}
 
 -- the sign and magnitude of every value
@@ -26,10 +27,9 @@ sizeOf (infinite s) = 127
 sizeOf (exactly s u) = held (nearestWhole u)
 
 value-is : (n : Number) → Is (valueOf n) (sideOf n) (sizeOf n)
-unfolding valueOf
-value-is notANumber = record { byte = refl; within = omega arith }
-value-is (infinite s) = record { byte = refl; within = omega arith }
-value-is (exactly s u) = record { byte = refl; within = min-le-right (nearestWhole u) 127 }
+value-is notANumber = record { byte = valueOf-nan; within = omega arith }
+value-is (infinite s) = record { byte = valueOf-infinite s; within = omega arith }
+value-is (exactly s u) = record { byte = valueOf-exactly s u; within = held-below u }
 
 -- ---- bytes in two's complement
 
@@ -68,8 +68,8 @@ against-minus w h = ⊎-elim
     (eq-zero-or-pos w)
 
 against-value : (s : Bool) (u : ℕ) → (against s (valueOf (exactly s u)) ≡ held (nearestWhole u)) × (against (not s) (valueOf (exactly s u)) ≡ 0)
-against-value false u = rw (value-is (exactly false u) .byte) (against-plus (held (nearestWhole u)) (min-le-right (nearestWhole u) 127))
-against-value true u = rw (value-is (exactly true u) .byte) (against-minus (held (nearestWhole u)) (min-le-right (nearestWhole u) 127))
+against-value false u = rw (value-is (exactly false u) .byte) (against-plus (held (nearestWhole u)) (held-below u))
+against-value true u = rw (value-is (exactly true u) .byte) (against-minus (held (nearestWhole u)) (held-below u))
 
 -- ---- order
 
@@ -89,9 +89,6 @@ minus-raised v w h l = omega (arith, raised-minus v (omega arith), raised-minus 
 
 sides-raised : (v w : ℕ) → v ≤ 127 → w ≤ 127 → (byteOf true v + 128) % 256 ≤ (byteOf false w + 128) % 256
 sides-raised v w h k = omega (arith, raised-minus v h, raised-plus w k)
-
-held-below : (u : ℕ) → held (nearestWhole u) ≤ 127
-held-below u = min-le-right (nearestWhole u) 127
 
 held-some : (n : ℕ) → 1 ≤ n → 0 < held n
 held-some n l = omega arith
@@ -148,17 +145,14 @@ opposites notANumber = refl
 opposites (infinite s) = opposite-bytes s 127 (omega arith)
 opposites (exactly s u) = opposite-bytes s (held (nearestWhole u)) (held-below u)
 
-of-nan : valueOf notANumber ≡ 0
-unfolding valueOf
-of-nan = refl
+rounds : (s : Bool) (u : ℕ) → Rounds s u (held (nearestWhole u))
+rounds s u = record { value = value-is (exactly s u); nearest = λ t v k. least s t u v k; withinHalf = within s u; halves = λ t v k e. ties s t u v k e }
 
 pub values : Values
 values =
     record {
-      nearest = λ s u. (held (nearestWhole u), value-is (exactly s u), λ t v k. least s t u v k);
-      withinHalf = λ s u l. (held (nearestWhole u), value-is (exactly s u), within s u l);
-      halves = λ s u. (held (nearestWhole u), value-is (exactly s u), λ t v k e. ties s t u v k e);
-      ofNaN = of-nan;
+      rounds = λ s u. (held (nearestWhole u), rounds s u);
+      ofNaN = valueOf-nan;
       ofInfinity = λ s. value-is (infinite s);
       against = λ s u. against-value s u;
       speaks = speaks;

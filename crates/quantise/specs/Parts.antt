@@ -20,10 +20,20 @@ unfoldable pub unitsAt : ℕ → ℕ
 unfolding unitsOf
 unitsAt m = unitsOf (m / 2 ^ 23) (m % 2 ^ 23)
 
+-- the bits of an infinity without its sign; of a quarter; of 127
+abbrev pub infinity : ℕ
+infinity = 255 * 2 ^ 23
+
+abbrev pub quarter : ℕ
+quarter = 125 * 2 ^ 23
+
+abbrev pub loudest : ℕ
+loudest = 133 * 2 ^ 23 + 63 * 2 ^ 17
+
 -- the bits of a quarter, those of 127, or between
 pub record Middling (m : ℕ) : Type 0 where
-  pub low : 125 * 2 ^ 23 ≤ m
-  pub high : m ≤ 133 * 2 ^ 23 + 63 * 2 ^ 17
+  pub low : quarter ≤ m
+  pub high : m ≤ loudest
 
 -- the greatest of the bits without their signs
 unfoldable pub greatest : List ℕ → ℕ
@@ -42,4 +52,4 @@ pub record TookIn (numbers : List Float) (before after : List ℕ) (r : ℕ) : T
 
 -- the finding that the greatest of the bits without signs tells: a NaN's are above an infinity's, those of zeros are 0
 unfoldable pub foundAt : ℕ → Finding
-foundAt m = cond (ltb (255 * 2 ^ 23) m) Faulty (cond (eqb m 0) Silent (Heard (ofBits binary32 m)))
+foundAt m = cond (ltb infinity m) Faulty (cond (eqb m 0) Silent (Heard (ofBits binary32 m)))

@@ -57,13 +57,19 @@ pub record Is (v : ℕ) (s : Bool) (w : ℕ) : Type 0 where
   pub byte : v ≡ byteOf s w
   pub within : w ≤ 127
 
-pub record Values : Type 0 where
+-- the value of plus or minus u times 2^-149 is the whole number w with the same sign, and of it:
+pub record Rounds (s : Bool) (u w : ℕ) : Type 0 where
+  pub value : Is (valueOf (exactly s u)) s w
   -- "nearest whole number .. held at 127 and -127": no other whole number from -127 to 127 is nearer
-  pub nearest : (s : Bool) (u : ℕ) → (w : ℕ) × Is (valueOf (exactly s u)) s w × ((t : Bool) (v : ℕ) → v ≤ 127 → distance s u s w ≤ distance s u t v)
+  pub nearest : (t : Bool) (v : ℕ) → v ≤ 127 → distance s u s w ≤ distance s u t v
   -- where it is not held, at magnitudes below 127 and a half, its distance is at most a half
-  pub withinHalf : (s : Bool) (u : ℕ) → 2 * u < 255 * 2 ^ 149 → (w : ℕ) × Is (valueOf (exactly s u)) s w × (2 * distance s u s w ≤ 2 ^ 149)
+  pub withinHalf : 2 * u < 255 * 2 ^ 149 → 2 * distance s u s w ≤ 2 ^ 149
   -- "halves away from zero": of two that are equally near it is the one farther from zero
-  pub halves : (s : Bool) (u : ℕ) → (w : ℕ) × Is (valueOf (exactly s u)) s w × ((t : Bool) (v : ℕ) → v ≤ 127 → distance s u s w ≡ distance s u t v → v ≤ w)
+  pub halves : (t : Bool) (v : ℕ) → v ≤ 127 → distance s u s w ≡ distance s u t v → v ≤ w
+
+pub record Values : Type 0 where
+  -- every finite number is rounded so
+  pub rounds : (s : Bool) (u : ℕ) → (w : ℕ) × Rounds s u w
   -- "a NaN becomes 0"; "Infinities count as ±127"
   pub ofNaN : valueOf notANumber ≡ 0
   pub ofInfinity : (s : Bool) → Is (valueOf (infinite s)) s 127

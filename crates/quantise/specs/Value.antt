@@ -1,6 +1,6 @@
 -- The value of a number, #101: "nearest whole number, halves away from zero, held at 127 and -127; a NaN becomes 0";
 -- "Infinities count as ±127". One byte in two's complement.
--- To be believed: all of it. That it is nearest is `Values.nearest` of Promises. Assumes nothing.
+-- To be believed: all of it. That it is nearest is `Rounds` of Promises. Assumes nothing.
 use mathlib.Core.Bool.{Bool, true, false}
 use Prim.Native.Nat.{ℕ, _+_, _-_, _/_, _%_, _^_, min}
 use Rattle.quantise.specs.Number.{Number, notANumber, infinite, exactly}

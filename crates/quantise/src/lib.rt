@@ -4,7 +4,7 @@ ghost use mathlib.Core.Path.{_≡_};
 ghost use Prim.Native.Nat.{min, max};
 ghost use lib.Ieee.{binary32, toBits};
 ghost use Rattle.quantise.specs.Number.{numberOf};
-ghost use Rattle.quantise.specs.Value.{valueOf, nearestWhole};
+ghost use Rattle.quantise.specs.Value.{valueOf, held, nearestWhole};
 ghost use Rattle.quantise.specs.Quantise.{Quantises};
 ghost use Rattle.quantise.specs.Parts.{unitsAt, Middling, Taken, TookIn, foundAt};
 
@@ -69,8 +69,15 @@ fn rounded(m: u32) -> u32
     ((mantissa << steps) + 0x100_0000) / 0x200_0000
 }
 
-// The value of the number with these bits. Below a quarter everything rounds to 0, as a quarter does, and above 127
-// everything is held at 127.
+// The magnitude with these bits to the nearest whole number, halves up, held at 127: below a quarter everything rounds to
+// 0, as a quarter does, and above 127 everything is held there.
+fn rounded_and_held(m: u32) -> u32
+    ensures { λ r. ⌜ r ≡ held (nearestWhole (unitsAt m)) ⌝ }
+{
+    rounded(lesser(greater(m, QUARTER), LOUDEST))
+}
+
+// The value of the number with these bits.
 fn value(b: u32) -> u8
     ensures { λ r. ⌜ r ≡ valueOf (numberOf b) ⌝ }
 {
@@ -78,7 +85,7 @@ fn value(b: u32) -> u8
     if INFINITY < m {
         return 0;
     }
-    let r = rounded(lesser(greater(m, QUARTER), LOUDEST));
+    let r = rounded_and_held(m);
     if b < SIGN {
         return r as u8;
     }

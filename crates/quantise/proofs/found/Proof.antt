@@ -6,8 +6,7 @@ use borrow.Author.Tests.{lt-ltb, le-ltb, eq-eqb, ne-eqb}
 use lib.Dec.{T}
 use lib.Ieee.{binary32, nanBits}
 use lib.Ieee.Bits.{nanBits-above}
-use Rattle.quantise.specs.Parts.{foundAt}
-use Rattle.quantise.proofs.Numbers.{infinity}
+use Rattle.quantise.specs.Parts.{infinity, foundAt}
 use Rattle.quantise.proofs.found.Statement.{statement}
 use Rattle.quantise.proofs.found.Tie as tie
 

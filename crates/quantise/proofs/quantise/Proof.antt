@@ -1,5 +1,5 @@
--- `quantise::quantise` meets its contract: each refusal in its order, and else the values and the finding. Assumes
--- nothing.
+-- `quantise::quantise` meets its contract: each refusal in its order, and else the values and the finding.
+-- Assumes nothing.
 use native.Mathlib.Omega.{arith}
 use borrow.Author.Needs.{needs}
 use lib.ListN.{length}

@@ -1,5 +1,5 @@
--- `quantise::rounded` meets its contract: what the shift gives is a whole number of 2^-25, and rounds as the exact
--- value does. Assumes nothing.
+-- `quantise::rounded` meets its contract: what the shift gives is a whole number of 2^-25, and rounds as the exact value
+-- does. Assumes nothing.
 use mathlib.Core.Path.{_≡_, sym, ap, _∙_}
 use Prim.Native.Nat.{ℕ, _+_, _/_, _%_, _^_}
 use native.Mathlib.Nat.{mod-eq-of-lt}

@@ -1,5 +1,5 @@
--- `quantise::take_in` meets its contract. The loop's invariant: the values of the numbers before i are written
--- (`Filling`). Assumes nothing.
+-- `quantise::take_in` meets its contract. The loop's invariant, `Filling`: the values of the numbers before i are written.
+-- Assumes nothing.
 use Prim.Native.Nat.{_-_}
 use native.Mathlib.Omega.{arith}
 use borrow.Author.Needs.{needs}
