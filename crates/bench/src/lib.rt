@@ -1,4 +1,6 @@
 // The search and its neighbours, for the benchmark: a C program lends them buffers. No part of the product's own C interface, which is the gateway's.
+#![tactic(auto)]
+
 ghost use Rattle.std.specs.Prelude.{map, ◌≡◌};
 ghost use Rattle.bits.specs.Bits.{bit, is_one};
 ghost use Rattle.whiten.specs.Whiten.{whitened};

@@ -1,4 +1,6 @@
 // Runs of bytes stored in a lent buffer, one after another.
+#![tactic(auto)]
+
 ghost use Rattle.std.specs.Prelude.{◌+◌, ◌≤◌, length};
 ghost use Rattle.buffers.specs.Buffers.{Appends};
 

@@ -13,7 +13,7 @@ use Rattle.uplink.specs.Recover.{marks_good}
 use Rattle.capture.specs.declared.Written.{Written}
 use Rattle.capture.specs.declared.Read.{Read}
 use Rattle.capture.specs.Capture.{field, packets, capture_of, capture_size}
-use Rattle.capture.specs.Answers.{written_refusal, read_refusal_of, read_length_lem}
+use Rattle.capture.specs.Answers.{written_refusal, read_refusal_of, read_length}
 use Rattle.capture.specs.Writing.{write_refusal, Writes}
 use Rattle.capture.specs.Reading.{same_bytes, first_field, told_in, marks_in, values_from, values_in, whole, read_refusal, Reads}
 use Rattle.capture.specs.Parts.{Writable, Opening}
@@ -77,7 +77,7 @@ module _ (l : ℕ) (marks values : List ℕ) {room : ℕ} (w : Writable l marks 
     values_back = q.values_bytes ∙ rw (test, told_in-capture_of, values_in-capture_of)
 
     -- a capture that was written, read
-    capture_read : (read_refusal_of answer ≡ 0) × (read_length_lem answer ≡ l) × (take (l + 4) marks' ≡ marks) × (take (24 * (l + 4)) values' ≡ values)
+    capture_read : (read_refusal_of answer ≡ 0) × (read_length answer ≡ l) × (take (l + 4) marks' ≡ marks) × (take (24 * (l + 4)) values' ≡ values)
     capture_read = (
       q.refusal ∙ taken,
       read_length_lem q (q.refusal ∙ taken) ∙ told_in-capture_of,
@@ -100,7 +100,7 @@ read_written :
     → Writes l marks values before after written → written_refusal written ≡ 0
     → l + 4 ≤ length room₁ → 24 * (l + 4) ≤ length room₂
     → Reads (take (capture_size l) after) room₁ room₂ marks' values' answer
-    → (read_refusal_of answer ≡ 0) × (read_length_lem answer ≡ l) × (take (l + 4) marks' ≡ marks) × (take (24 * (l + 4)) values' ≡ values)
+    → (read_refusal_of answer ≡ 0) × (read_length answer ≡ l) × (take (l + 4) marks' ≡ marks) × (take (24 * (l + 4)) values' ≡ values)
 read_written {l} {marks} {values} {before} p z r₁ r₂ q =
     let e : write_refusal l marks values (length before) ≡ 0 = sym p.refusal ∙ z in
     capture_read l marks values (write_taken l marks values (length before) e) (write_taken-marks l marks values (length before) e) r₁ r₂ (rw (written_front p e) at q)
@@ -123,16 +123,16 @@ write_read :
     {c room₁ room₂ marks values before after : List ℕ} {answer : Read} {written : Written}
     → Reads c room₁ room₂ marks values answer → read_refusal_of answer ≡ 0
     → length c ≤ length before
-    → Writes (read_length_lem answer) (take (read_length_lem answer + 4) marks) (take (24 * (read_length_lem answer + 4)) values) before after written
+    → Writes (read_length answer) (take (read_length answer + 4) marks) (take (24 * (read_length answer + 4)) values) before after written
     → (written_refusal written ≡ 0) × (take (length c) after ≡ c)
 write_read {c} {room₁} {room₂} {marks} {values} {answer = answer} p z h q =
     let e : read_refusal c (length room₁) (length room₂) ≡ 0 = sym p.refusal ∙ z in
     let test : eqb (read_refusal c (length room₁) (length room₂)) 0 ≡ true = eq-eqb (read_refusal c (length room₁) (length room₂)) 0 e in
     let t : ReadTaken c (length room₁) (length room₂) = read_taken c (length room₁) (length room₂) e in
-    let told : read_length_lem answer ≡ told_in c = read_length_lem p z in
-    let m : take (read_length_lem answer + 4) marks ≡ marks_in (told_in c) c =
+    let told : read_length answer ≡ told_in c = read_length_lem p z in
+    let m : take (read_length answer + 4) marks ≡ marks_in (told_in c) c =
     ap (λ (n : ℕ). take (n + 4) marks) told ∙ ap (take (told_in c + 4)) (p.marks_bytes ∙ rw test) ∙ take_at (marks_in (told_in c) c) (drop (told_in c + 4) room₁) (told_in c + 4) (length-marks_in (told_in c) c (size_read t)) in
-    let v : take (24 * (read_length_lem answer + 4)) values ≡ values_in (told_in c) c =
+    let v : take (24 * (read_length answer + 4)) values ≡ values_in (told_in c) c =
     ap (λ (n : ℕ). take (24 * (n + 4)) values) told ∙ ap (take (24 * (told_in c + 4))) (p.values_bytes ∙ rw test) ∙ take_at (values_in (told_in c) c) (drop (24 * (told_in c + 4)) room₂) (24 * (told_in c + 4)) (length-values_in (told_in c) c (size_read t)) in
     capture_written t told m v h q
 

@@ -12,7 +12,7 @@ use Rattle.capture.specs.declared.Written.{Written}
 use Rattle.capture.specs.declared.Written.TheVariants as Written-is
 use Rattle.capture.specs.declared.Read.{Read}
 use Rattle.capture.specs.declared.Read.TheVariants as Read-is
-use Rattle.capture.specs.Answers.{written_refusal, written_size, read_refusal_of, read_length_lem}
+use Rattle.capture.specs.Answers.{written_refusal, written_size, read_refusal_of, read_length}
 use Rattle.capture.specs.Writing.{write_refusal, Writes}
 use Rattle.capture.specs.Reading.{told_in, read_refusal, Reads}
 use Rattle.capture.specs.Promises.{NoSecond}
@@ -25,7 +25,7 @@ written_same (Written-is.Refused x) (Written-is.Refused y) r s z = ap Written-is
 written_same (Written-is.Done x) (Written-is.Refused y) r s z = absurd (omega (arith, z refl))
 written_same (Written-is.Refused x) (Written-is.Done y) r s z = absurd (omega (arith, z r))
 
-read_same : (a b : Read) → read_refusal_of a ≡ read_refusal_of b → read_length_lem a ≡ read_length_lem b → (read_refusal_of a ≡ 0 → 0 < read_length_lem a) → a ≡ b
+read_same : (a b : Read) → read_refusal_of a ≡ read_refusal_of b → read_length a ≡ read_length b → (read_refusal_of a ≡ 0 → 0 < read_length a) → a ≡ b
 read_same (Read-is.Done x) (Read-is.Done y) r s z = ap Read-is.Done s
 read_same (Read-is.Refused x) (Read-is.Refused y) r s z = ap Read-is.Refused r
 read_same (Read-is.Done x) (Read-is.Refused y) r s z = absurd (omega (arith, z refl))
@@ -36,7 +36,7 @@ pub written_size_lem : {l : ℕ} {marks values before after : List ℕ} {answer 
 written_size_lem {l} {marks} {values} {before} p z =
     p.size ∙ ap (λ (t : Bool). cond t (capture_size l) 0) (eq-eqb (write_refusal l marks values (length before)) 0 (sym p.refusal ∙ z))
 
-pub read_length_lem : {c marks values marks' values' : List ℕ} {answer : Read} → Reads c marks values marks' values' answer → read_refusal_of answer ≡ 0 → read_length_lem answer ≡ told_in c
+pub read_length_lem : {c marks values marks' values' : List ℕ} {answer : Read} → Reads c marks values marks' values' answer → read_refusal_of answer ≡ 0 → read_length answer ≡ told_in c
 read_length_lem {c} {marks} {values} p z =
     p.told ∙ ap (λ (t : Bool). cond t (told_in c) 0) (eq-eqb (read_refusal c (length marks) (length values)) 0 (sym p.refusal ∙ z))
 

@@ -18,6 +18,6 @@ abbrev pub read_refusal_of : Read → ℕ
 read_refusal_of (Read-is.Done told) = 0
 read_refusal_of (Read-is.Refused number) = number
 
-abbrev pub read_length_lem : Read → ℕ
-read_length_lem (Read-is.Done told) = told
-read_length_lem (Read-is.Refused number) = 0
+abbrev pub read_length : Read → ℕ
+read_length (Read-is.Done told) = told
+read_length (Read-is.Refused number) = 0

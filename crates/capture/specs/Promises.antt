@@ -4,7 +4,7 @@ use Rattle.std.specs.Prelude.{List, ◌≡◌, ℕ, ◌+◌, ◌*◌, ◌≤◌,
 use Rattle.capture.specs.Capture.{capture_size}
 use Rattle.capture.specs.declared.Written.{Written}
 use Rattle.capture.specs.declared.Read.{Read}
-use Rattle.capture.specs.Answers.{written_refusal, read_refusal_of, read_length_lem}
+use Rattle.capture.specs.Answers.{written_refusal, read_refusal_of, read_length}
 use Rattle.capture.specs.Writing.{Writes}
 use Rattle.capture.specs.Reading.{Reads}
 
@@ -34,11 +34,11 @@ pub record RoundTrips : Type 0 where
       → Writes l marks values before after written → written_refusal written ≡ 0
       → l + 4 ≤ length room₁ → 24 * (l + 4) ≤ length room₂
       → Reads (take (capture_size l) after) room₁ room₂ marks' values' answer
-      → (read_refusal_of answer ≡ 0) × (read_length_lem answer ≡ l) × (take (l + 4) marks' ≡ marks) × (take (24 * (l + 4)) values' ≡ values)
+      → (read_refusal_of answer ≡ 0) × (read_length answer ≡ l) × (take (l + 4) marks' ≡ marks) × (take (24 * (l + 4)) values' ≡ values)
   -- "writing what was read gives the same bytes"
   pub write_read :
       {c room₁ room₂ marks values before after : List ℕ} {answer : Read} {written : Written}
       → Reads c room₁ room₂ marks values answer → read_refusal_of answer ≡ 0
       → length c ≤ length before
-      → Writes (read_length_lem answer) (take (read_length_lem answer + 4) marks) (take (24 * (read_length_lem answer + 4)) values) before after written
+      → Writes (read_length answer) (take (read_length answer + 4) marks) (take (24 * (read_length answer + 4)) values) before after written
       → (written_refusal written ≡ 0) × (take (length c) after ≡ c)

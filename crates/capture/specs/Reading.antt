@@ -5,7 +5,7 @@ use Rattle.uplink.specs.Build.{length_wrong}
 use Rattle.uplink.specs.Recover.{marks_good}
 use Rattle.capture.specs.Capture.{capture_of, capture_size}
 use Rattle.capture.specs.declared.Read.{Read}
-use Rattle.capture.specs.Answers.{read_refusal_of, read_length_lem}
+use Rattle.capture.specs.Answers.{read_refusal_of, read_length}
 
 -- two runs of bytes are the same
 unfoldable pub same_bytes : List ℕ → List ℕ → Bool
@@ -50,6 +50,6 @@ read_refusal c marks_room values_room =
 -- what reading answers and leaves in the two lent buffers, for every input
 pub record Reads (c marks values marks' values' : List ℕ) (answer : Read) : Type 0 where
   pub refusal : read_refusal_of answer ≡ read_refusal c (length marks) (length values)
-  pub told : read_length_lem answer ≡ cond (eqb (read_refusal c (length marks) (length values)) 0) (told_in c) 0
+  pub told : read_length answer ≡ cond (eqb (read_refusal c (length marks) (length values)) 0) (told_in c) 0
   pub marks_bytes : marks' ≡ cond (eqb (read_refusal c (length marks) (length values)) 0) (marks_in (told_in c) c ++ drop (told_in c + 4) marks) marks
   pub values_bytes : values' ≡ cond (eqb (read_refusal c (length marks) (length values)) 0) (values_in (told_in c) c ++ drop (24 * (told_in c + 4)) values) values

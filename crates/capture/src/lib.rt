@@ -1,4 +1,6 @@
 // The stored capture, document 01: what a receiver heard of one frame, as tagged fields. Neither writing nor reading asks anything of its caller.
+#![tactic(auto)]
+
 mod reading;
 mod writing;
 
@@ -6,14 +8,14 @@ ghost use Rattle.capture.specs.Writing.{Writes};
 ghost use Rattle.capture.specs.Reading.{Reads};
 
 // What writing answers: the size of the capture, or the number of the refusal.
-#[derive(Drop)]
+#[derive(Clone, Copy)]
 pub enum Written {
     Done(u32),
     Refused(u32),
 }
 
 // What reading answers: the length of the message, or the number of the refusal.
-#[derive(Drop)]
+#[derive(Clone, Copy)]
 pub enum Read {
     Done(u32),
     Refused(u32),

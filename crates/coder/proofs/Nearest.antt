@@ -11,11 +11,22 @@ use lib.Dec.{ltb}
 use lib.ListN.{length}
 use Rattle.coder.specs.Nearest.{NotAfter, same, less, more, Nearest, cheaper, nearest}
 
+-- the same at any strings that are equal to those two
+not_after_both : {x y u v : List Bool} → NotAfter x y → NotAfter u v → u ≡ y → v ≡ x → x ≡ y
+not_after_both same q e f = refl
+not_after_both less same e f = cc
+not_after_both less less e f = cc
+not_after_both less (more q) e f = cc
+not_after_both (more p) same e f = cc
+not_after_both (more p) less e f = cc
+not_after_both (more {b = b} {x = x} {y = y} p) (more {x = u} {y = v} q) e f =
+    let first : u ≡ y = cc in
+    let second : v ≡ x = cc in
+    ap (λ (l : List Bool). b ∷ l) (not_after_both p q first second)
+
 -- two strings, neither of which comes after the other, are the same
 pub not_after_antisymm : {x y : List Bool} → NotAfter x y → NotAfter y x → x ≡ y
-not_after_antisymm same q = refl
-not_after_antisymm (more p) same = refl
-not_after_antisymm (more {b = b} p) (more q) = ap (λ (l : List Bool). b ∷ l) (not_after_antisymm p q)
+not_after_antisymm p q = not_after_both p q refl refl
 
 module _ {cost : List Bool → ℕ} {n : ℕ} {x y : List Bool} (p : Nearest cost n x) (q : Nearest cost n y) where
   -- there is at most one nearest string

@@ -30,8 +30,8 @@ pub coded_after-held : {w : Words} {taken before : List Bool} {s : ℕ} → Shor
     → (xs : List Bool) → coded_after w taken xs ≡ coded_after w before xs
 unfolding coded_after
 coded_after-held h p q [] = refl
-coded_after-held {w} h p q (x ∷ xs) =
-    cc (outputs-held x h p, outputs-held x h q, coded_after-held h (holds_shifted x p) (holds_shifted x q) xs)
+coded_after-held {w = w} {taken = taken} {before = before} h p q (x ∷ xs) =
+    cc (outputs-held x h p, outputs-held x h q, coded_after-held {taken = x ∷ taken} {before = x ∷ before} h (holds_shifted x p) (holds_shifted x q) xs)
 
 -- six bits are what their number holds
 pub holds_bits_of : (s : ℕ) → s < 64 → Holds (bits_of 6 s) s

@@ -1,5 +1,7 @@
 // The convolutional coder of the uplink, TS 103 357 clause 6.4.6.3: coded bits from bits, one byte to a bit. The definitions it is held to, the cost of a string
 // and the nearest string stand in specs/.
+#![tactic(auto)]
+
 ghost use Rattle.std.specs.Prelude.{map, ◌++◌, ◌≡◌, ◌+◌, ◌*◌, ◌≤◌, ◌<◌, length, drop};
 ghost use Rattle.std.proofs.lemmas.List.Edits.{sets};
 ghost use Rattle.bits.specs.Bits.{bit, is_one, bits_of};

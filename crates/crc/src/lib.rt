@@ -1,5 +1,7 @@
 // The CRC of 8 bits over a run of bits, one byte to a bit: polynomial 0x9B, initial value 0xFF, most significant bit first,
 // no final xor.
+#![tactic(auto)]
+
 ghost use Rattle.std.specs.Prelude.{cond, map, ◌≡◌, ◌≤◌};
 ghost use Rattle.bits.specs.Bits.{is_one};
 ghost use Rattle.crc.specs.Crc.{crc_step, crc8};

@@ -9,7 +9,7 @@ use Rattle.uplink.specs.Build.{Builds}
 use Rattle.uplink.specs.Recover.{Recovers}
 use Rattle.capture.specs.declared.Written.{Written}
 use Rattle.capture.specs.declared.Read.{Read}
-use Rattle.capture.specs.Answers.{written_refusal, written_size, read_refusal_of, read_length_lem}
+use Rattle.capture.specs.Answers.{written_refusal, written_size, read_refusal_of, read_length}
 use Rattle.capture.specs.Writing.{Writes}
 use Rattle.capture.specs.Reading.{Reads}
 use Rattle.quantise.specs.declared.Quantised.{Quantised}
@@ -41,7 +41,7 @@ abbrev pub written_fields : Written → GloamWritten
 written_fields answer = record { refusal = written_refusal answer; size = written_size answer }
 
 abbrev pub read_fields : Read → GloamRead
-read_fields answer = record { refusal = read_refusal_of answer; length = read_length_lem answer }
+read_fields answer = record { refusal = read_refusal_of answer; length = read_length answer }
 
 abbrev pub quantised_fields : Quantised → GloamQuantised
 quantised_fields answer = record { refusal = quantised_refusal answer; finding = quantised_finding answer; peak = quantised_peak answer }

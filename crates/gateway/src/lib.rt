@@ -1,5 +1,7 @@
 // The C interface, as include/gloamstrother.h tells it: build and recover, the stored capture both ways, and the values
 // of a burst, each handing on just what the operation answers. None asks anything of its caller.
+#![tactic(auto)]
+
 ghost use Rattle.uplink.specs.Build.{Builds};
 ghost use Rattle.uplink.specs.Recover.{Recovers};
 ghost use Rattle.capture.specs.Writing.{Writes};
@@ -14,7 +16,7 @@ use uplink::{Built, Recovered};
 
 // gloam_written: 0 and the bytes written, or the refusal and 0.
 #[repr(C)]
-#[derive(Drop)]
+#[derive(Clone, Copy)]
 pub struct GloamWritten {
     pub refusal: u32,
     pub size: u32,
@@ -22,7 +24,7 @@ pub struct GloamWritten {
 
 // gloam_read: 0 and the length of the message, or the refusal and 0.
 #[repr(C)]
-#[derive(Drop)]
+#[derive(Clone, Copy)]
 pub struct GloamRead {
     pub refusal: u32,
     pub length: u32,
@@ -30,7 +32,7 @@ pub struct GloamRead {
 
 // gloam_recovered: 0, the length of the message, its mode and the cost, or the refusal and three times 0.
 #[repr(C)]
-#[derive(Drop)]
+#[derive(Clone, Copy)]
 pub struct GloamRecovered {
     pub refusal: u32,
     pub length: u32,
@@ -41,7 +43,7 @@ pub struct GloamRecovered {
 // gloam_quantised: 0, the finding (1 heard, 2 silent, 3 faulty) and the peak of one that is heard, or the refusal; what
 // does not hold is 0.
 #[repr(C)]
-#[derive(Drop)]
+#[derive(Clone, Copy)]
 pub struct GloamQuantised {
     pub refusal: u32,
     pub finding: u32,

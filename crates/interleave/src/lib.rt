@@ -1,10 +1,12 @@
 // Interleaving of the uplink, TS 103 357 clause 6.4.4.6, and its pilots, clause 6.4.2.1.1: which radio-burst and which symbol of it carries a coded bit, and
 // the way back. For reading and for tests: the frames as a whole are filled and gathered by the crate placing.
+#![tactic(auto)]
+
 ghost use Rattle.std.specs.Prelude.{◌≡◌, ◌<◌};
 ghost use Rattle.interleave.specs.Interleave.{coded_bits, shifted_index, symbol, Placed, pilot, DataSymbol, OneOf, CodedBit, BurstSymbol, BurstPlace, Shifted, Ordered, Carried};
 
 // A place in a frame: a sub-packet, and a symbol of the burst that carries it.
-#[derive(Drop)]
+#[derive(Clone, Copy)]
 pub struct Position {
     pub packet: usize,
     pub symbol: usize,
@@ -70,7 +72,7 @@ pub fn pilot_at(s: usize, p: usize) -> u8
 }
 
 // A place among the 24 of a sub-packet.
-#[derive(Drop)]
+#[derive(Clone, Copy)]
 pub struct Slot {
     pub packet: usize,
     pub order: usize,

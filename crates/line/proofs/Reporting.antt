@@ -152,8 +152,8 @@ read_refusal_is c marks values m v = ap (λ (n : ℕ). read_refusal c n (length 
 
 module _ (c : List ℕ) {marks₀ values₀ marks values : List ℕ} (marked₀ : length marks₀ ≡ 259) (valued₀ : length values₀ ≡ 6216) where
   -- the length that was read
-  pub read_length_lem : {told : ℕ} → Reads c marks₀ values₀ marks values (Read-is.Done told) → Told told
-  read_length_lem {told} r =
+  pub read_length : {told : ℕ} → Reads c marks₀ values₀ marks values (Read-is.Done told) → Told told
+  read_length {told} r =
       let z : read_refusal c (length marks₀) (length values₀) ≡ 0 = sym r.refusal in
       let same : told ≡ told_in c = r.told ∙ ap (λ (t : Bool). cond t (told_in c) 0) (eq-eqb _ _ z) in
       rw same (read_told c (length marks₀) (length values₀) z)

@@ -1,4 +1,6 @@
 // The report's line, document 01: one capture in, one line out.
+#![tactic(auto)]
+
 ghost use Rattle.std.specs.Prelude.{[], ◌∷◌, ◌++◌, ◌≡◌, ◌+◌, ◌*◌, ◌/◌, ◌%◌, ◌≤◌, ◌<◌, length, take};
 ghost use Rattle.buffers.specs.Buffers.{Appends};
 ghost use Rattle.line.specs.Line.{decimal, hex_digit, hex, ok_line, refused_line};
@@ -133,11 +135,30 @@ pub fn report_line(input: &[u8], out: &mut [u8]) -> usize
     }
 }
 
+// Reads to the end of the input, or until the buffer is full, and answers how many bytes of it are kept. A failed read
+// ends the input.
+fn read_full<R: std::io::Read>(reader: &mut R, kept: &mut [u8]) -> usize
+    ensures { result ≤ length kept.old }
+{
+    let mut at: usize = 0;
+    while at < kept.len() {
+        let count = match reader.read(&mut kept[at..]) {
+            Ok(count) => count,
+            Err(_) => 0,
+        };
+        if count == 0 {
+            return at;
+        }
+        at += count;
+    }
+    at
+}
+
 // Reads standard input to its end, or until 7,260 bytes are kept, one more than the longest capture has, and writes the line of what was kept to standard output.
-pub fn report() {
+pub fn report<R: Input + Print>(rt: &R) -> std::io::Result<()> {
     let mut input = [0u8; 7260];
-    let kept = io::read_full(libc::STDIN_FILENO, &mut input);
+    let kept = read_full(&mut rt.reader(), &mut input);
     let mut line = [0u8; 544];
     let size = report_line(&input[..kept], &mut line);
-    io::write_all(libc::STDOUT_FILENO, &line[..size]);
+    rt.write_all(&line[..size])
 }

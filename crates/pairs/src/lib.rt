@@ -1,12 +1,14 @@
 // One sub-packet, TS 103 357 clause 6.4.4.6 backwards: its symbols are taken in pairs from the pilot outwards. A walk gives the coded bits of a pair and the step
 // to those of the next, with no division by a variable; the loops gather the values of a walk's pairs, and fill in their coded bits. Whole frames: the crate placing.
+#![tactic(auto)]
+
 ghost use Rattle.std.specs.Prelude.{cond, List, ◌≡◌, ℕ, ◌+◌, ◌*◌};
 ghost use Rattle.pairs.specs.Walks.{Walks, CorePacket, ExtensionPacket};
 ghost use Rattle.pairs.specs.Sizes.{GatherPairs, FillPairs, FillPilot};
 ghost use Rattle.pairs.specs.Turns.{Gathered, Filled};
 
 // Where the coded bits of a pair of symbols stand, below and above the pilot, and how far those of the next pair are.
-#[derive(Drop)]
+#[derive(Clone, Copy)]
 pub struct Walk {
     pub low: usize,
     pub high: usize,

@@ -1,5 +1,7 @@
 // The fields of the PHY payload, TS 103 357 clauses 6.4.2.3 and 6.4.4.4, one byte to a bit: `compose` makes the payload bits of a message and a mode, and `open`
 // checks payload bits and takes the message out of them. The search, the whitening and the radio burst are left to others.
+#![tactic(auto)]
+
 ghost use Rattle.std.specs.Prelude.{map, ◌++◌, ◌≡◌, ◌+◌, ◌*◌, ◌≤◌, ◌<◌, length, take, drop};
 ghost use Rattle.std.proofs.lemmas.List.Edits.{sets};
 ghost use Rattle.bits.specs.Bits.{bit, is_one, bits_of, bits_of_bytes, number_of};
@@ -120,7 +122,7 @@ fn first_failed(bits: &[u8], l: usize) -> u8
 }
 
 // What opening answers: the mode, or the number of the first check that failed, 7, 8 or 9.
-#[derive(Drop)]
+#[derive(Clone, Copy)]
 pub enum Opened {
     Done(u8),
     Refused(u8),

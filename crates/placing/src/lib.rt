@@ -1,5 +1,7 @@
 // Frames as a whole, document 01: the values that were heard gathered in the coder's order, and the coded bits filled into the bursts. Both go through the
 // sub-packets in order, and in each through the pairs of its symbols (the crate pairs).
+#![tactic(auto)]
+
 ghost use Rattle.std.specs.Prelude.{◌++◌, ◌≡◌, ◌+◌, ◌*◌, drop};
 ghost use Rattle.interleave.specs.Interleave.{coded_bits};
 ghost use Rattle.interleave.specs.Bursts.{received};

@@ -8,7 +8,7 @@ use native.Mathlib.Omega.{arith}
 use borrow.Author.Tests.{lt-ltb, le-ltb, ne_eqb}
 use lib.Dec.{ltb, eqb}
 use Rattle.quantise.specs.Number.{units_of, number_of}
-use Rattle.quantise.specs.Finding.{is_nan, is_zero, exceeds, some_nan_lem, all_zero, magnitude, peak_of, finding_of}
+use Rattle.quantise.specs.Finding.{is_nan, is_zero, exceeds, some_nan, all_zero, magnitude, peak_of, finding_of}
 use Rattle.quantise.specs.Parts.{units_at, infinity, greatest, found_at}
 use Rattle.quantise.proofs.Numbers.{number_nan, number_infinite, number_exactly}
 use Rattle.quantise.proofs.Order.{less_or-not, same_order, same_zero, some_above, both_zero, cond_max}
@@ -52,8 +52,8 @@ exceeds-order a b ha hb = go (eq-or-lt_of_le ha) (eq-or-lt_of_le hb)
         rw (number_exactly a k, number_exactly b l)
         (sym (same_order (magnitude b) (magnitude a) (units_at (magnitude b)) (units_at (magnitude a)) (units_less (magnitude b) (magnitude a)) (units_most (magnitude a) (magnitude b))))
 
-pub some_nan_lem : (bs : List ℕ) → some_nan_lem bs ≡ ltb infinity (greatest bs)
-unfolding some_nan_lem greatest
+pub some_nan_lem : (bs : List ℕ) → some_nan bs ≡ ltb infinity (greatest bs)
+unfolding some_nan greatest
 some_nan_lem [] = refl
 some_nan_lem (b ∷ bs) = rw (nan_above b, some_nan_lem bs) (some_above infinity (magnitude b) (greatest bs))
 

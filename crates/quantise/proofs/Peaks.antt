@@ -11,7 +11,7 @@ use lib.Dec.{T}
 use lib.Ieee.{Float, binary32, of_bits, to_bits, is_nan}
 use lib.Ieee.Bits.{to_bits-of_bits, nan_bits_is, nan_bits_above}
 use lib.ListN.{length, get_or}
-use Rattle.quantise.specs.Finding.{some_nan_lem, all_zero, magnitude, peak_of, finding_of}
+use Rattle.quantise.specs.Finding.{some_nan, all_zero, magnitude, peak_of, finding_of}
 use Rattle.quantise.specs.declared.Quantised.{Quantised}
 use Rattle.quantise.specs.declared.Quantised.TheVariants as Quantised-is
 use Rattle.quantise.specs.Answers.{quantised_refusal}
@@ -42,12 +42,12 @@ some_loud : (bs : List ℕ) → all_zero bs ≡ false → 0 < greatest bs
 some_loud bs z = ⊎_elim (λ e. absurd (eqb-false (greatest bs) 0 (sym (all_zero_lem bs) ∙ z) e)) (λ l. l) (eq-zero-or-pos (greatest bs))
 
 -- zeros are no NaNs
-zeros_no_nan : (bs : List ℕ) → all_zero bs ≡ true → some_nan_lem bs ≡ false
+zeros_no_nan : (bs : List ℕ) → all_zero bs ≡ true → some_nan bs ≡ false
 zeros_no_nan bs z =
     let none : greatest bs ≡ 0 = eqb-true (greatest bs) 0 (sym (all_zero_lem bs) ∙ z) in
     some_nan_lem bs ∙ le-ltb infinity (greatest bs) (omega arith)
 
-module _ (bs : List ℕ) (no : some_nan_lem bs ≡ false) where
+module _ (bs : List ℕ) (no : some_nan bs ≡ false) where
   most_finite : greatest bs ≤ infinity
   most_finite = ltb-false infinity (greatest bs) (sym (some_nan_lem bs) ∙ no)
 

@@ -29,9 +29,9 @@ exceeds (exactly s u) not_a_number = false
 exceeds (exactly s u) (infinite t) = false
 exceeds (exactly s u) (exactly t v) = ltb v u
 
-unfoldable pub some_nan_lem : List ℕ → Bool
-some_nan_lem [] = false
-some_nan_lem (b ∷ bs) = is_nan (number_of b) || some_nan_lem bs
+unfoldable pub some_nan : List ℕ → Bool
+some_nan [] = false
+some_nan (b ∷ bs) = is_nan (number_of b) || some_nan bs
 
 unfoldable pub all_zero : List ℕ → Bool
 all_zero [] = true
@@ -49,5 +49,5 @@ peak_of (b ∷ bs) = cond (exceeds (number_of b) (number_of (peak_of bs))) (magn
 -- "faulty because a NaN was present", whatever else is there; "Silent means that all 24 are plus or minus zero"; else
 -- heard with its peak
 unfoldable pub finding_of : List ℕ → Finding
-unfolding some_nan_lem all_zero peak_of
-finding_of bs = cond (some_nan_lem bs) Faulty (cond (all_zero bs) Silent (Heard (of_bits binary32 (peak_of bs))))
+unfolding some_nan all_zero peak_of
+finding_of bs = cond (some_nan bs) Faulty (cond (all_zero bs) Silent (Heard (of_bits binary32 (peak_of bs))))

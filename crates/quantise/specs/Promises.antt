@@ -7,7 +7,7 @@ use Rattle.std.specs.Float.Ieee.{to_bits, fits, up, down}
 use Rattle.coder.specs.Cost as coder
 use Rattle.quantise.specs.Number.{Number, not_a_number, infinite, exactly, number_of}
 use Rattle.quantise.specs.Value.{nearest_whole, held, byte_of, value_of}
-use Rattle.quantise.specs.Finding.{magnitude, exceeds, some_nan_lem, all_zero}
+use Rattle.quantise.specs.Finding.{magnitude, exceeds, some_nan, all_zero}
 use Rattle.quantise.specs.declared.Finding.TheVariants.{Heard, Silent, Faulty}
 use Rattle.quantise.specs.declared.Quantised.{Quantised}
 use Rattle.quantise.specs.declared.Quantised.TheVariants as Quantised-is
@@ -96,12 +96,12 @@ pub record Peaks (bs : List ℕ) (p : ℕ) : Type 0 where
 
 pub record Findings (numbers : List Float) (answer : Quantised) : Type 0 where
   -- "faulty because a NaN was present", whatever else is there
-  pub faulty : some_nan_lem (patterns numbers) ≡ true → answer ≡ Quantised-is.Done Faulty
+  pub faulty : some_nan (patterns numbers) ≡ true → answer ≡ Quantised-is.Done Faulty
   -- "Silent means that all 24 are plus or minus zero"
   pub silent : all_zero (patterns numbers) ≡ true → answer ≡ Quantised-is.Done Silent
   -- "heard with its peak magnitude", in every other case; "Infinities count .. as the peak", since nothing exceeds one
   pub heard :
-      some_nan_lem (patterns numbers) ≡ false → all_zero (patterns numbers) ≡ false
+      some_nan (patterns numbers) ≡ false → all_zero (patterns numbers) ≡ false
       → (peak : Float) × (answer ≡ Quantised-is.Done (Heard peak)) × Peaks (patterns numbers) (to_bits binary32 peak)
 
 -- ---- every answer

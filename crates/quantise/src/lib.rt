@@ -1,5 +1,7 @@
 // The numbers of one burst, as the front end hands them out, to the values that recovery takes, with a finding
 // (#101). It asks nothing of its caller.
+#![tactic(auto)]
+
 ghost use Rattle.std.specs.Prelude.{◌≡◌, min, max};
 ghost use Rattle.std.specs.Float.{binary32};
 ghost use Rattle.std.specs.Float.Ieee.{to_bits};
@@ -25,7 +27,7 @@ const NAN: u32 = 0x7fc0_0000;
 
 // What was found of a burst: heard, with the greatest magnitude among its numbers; silent, all of them zero; faulty,
 // a NaN among them.
-#[derive(Drop)]
+#[derive(Clone, Copy)]
 pub enum Finding {
     Heard(f32),
     Silent,
@@ -33,7 +35,7 @@ pub enum Finding {
 }
 
 // What quantising answers: the finding, or the number of the refusal.
-#[derive(Drop)]
+#[derive(Clone, Copy)]
 pub enum Quantised {
     Done(Finding),
     Refused(u32),

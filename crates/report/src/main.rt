@@ -1,4 +1,6 @@
 // The report program, document 01: one capture on standard input, one line on standard output.
-fn main() {
-    line::report();
+#![tactic(auto)]
+
+fn main(rt: HostRuntime) -> std::io::Result<()> {
+    line::report(&rt)
 }

@@ -1,6 +1,6 @@
 -- What the steps of the search do with their rows, in plain numbers. Nothing here has to be believed: it is what the functions of this crate say to their callers.
 -- Assumes nothing.
-use Rattle.std.specs.Prelude.{Bool, true, false, cond, List, [], ◌∷◌, ◌≡◌, ℕ, zero, ◌+◌, ◌-◌, ◌*◌, ◌%◌, ◌≤◌, ◌<◌, min, ltb, length, get_or}
+use Rattle.std.specs.Prelude.{Bool, true, false, cond, List, [], ◌∷◌, ◌≡◌, ℕ, ◌+◌, ◌-◌, ◌*◌, ◌%◌, ◌≤◌, ◌<◌, min, ltb, length, get_or}
 use Rattle.lists.specs.Lists.{firsts}
 use Rattle.bits.specs.Bits.{bit}
 use Rattle.coder.specs.Coder.{uplink_words}

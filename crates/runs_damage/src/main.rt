@@ -1,6 +1,8 @@
 // Frames of 20 bytes that were damaged, a line for each. First a bit of the payload is wrong before whitening and coding, and the frame is
 // heard clean: the check that meets it first refuses. Then a good frame is heard with values on the wrong side, with -128, and with
 // a sub-packet lost: the message comes back, and the cost is the sum of the weights heard against it.
+#![tactic(auto)]
+
 ghost use Rattle.std.specs.Prelude.{◌≡◌, ◌+◌, ◌*◌, ◌≤◌, ◌<◌, length};
 
 // The payload of the message, mode 2.
@@ -57,79 +59,98 @@ fn against(values: [u8; 576], v: usize, one: u8, zero: u8) -> [u8; 576]
 }
 
 // Recovers and writes the line: what was damaged, and the answer.
-fn recover_case(what: &[u8], marks: &[u8], values: &[u8; 576], sent: &[u8; 20]) {
+fn recover_case<R: Print>(
+    rt: &R,
+    what: &[u8],
+    marks: &[u8],
+    values: &[u8; 576],
+    sent: &[u8; 20],
+) -> std::io::Result<()> {
     let before = [0u8; 20];
     let mut message = [0u8; 20];
-    runs_show::text(what);
+    runs_show::text(rt, what)?;
     let answer = uplink::recover(20, marks, values, &mut message);
-    runs_show::show_recovered(answer);
-    runs_show::show_back(sent, &before, &message);
+    runs_show::show_recovered(rt, answer)?;
+    runs_show::show_back(rt, sent, &before, &message)?;
+    Ok(())
 }
 
 // Bit k wrong before whitening, the frame heard clean.
-fn damaged(what: &[u8], k: usize, sent: &[u8; 20])
+fn damaged<R: Print>(rt: &R, what: &[u8], k: usize, sent: &[u8; 20]) -> std::io::Result<()>
     requires { k < 186 }
 {
     let marks = [1u8; 24];
     let values = heard(flipped(good_payload(sent), k), 1, 255);
-    recover_case(what, &marks, &values, sent);
+    recover_case(rt, what, &marks, &values, sent)?;
+    Ok(())
 }
 
 // The same with the header CRC made right again.
-fn damaged_and_mended(what: &[u8], k: usize, sent: &[u8; 20])
+fn damaged_and_mended<R: Print>(
+    rt: &R,
+    what: &[u8],
+    k: usize,
+    sent: &[u8; 20],
+) -> std::io::Result<()>
     requires { k < 186 }
 {
     let marks = [1u8; 24];
     let bits = header_mended(flipped(good_payload(sent), k));
     let values = heard(bits, 1, 255);
-    recover_case(what, &marks, &values, sent);
+    recover_case(rt, what, &marks, &values, sent)?;
+    Ok(())
 }
 
 // A bit of each field wrong.
-fn wrong_bits(sent: &[u8; 20]) {
-    damaged(b"header CRC bit 3 wrong", 3, sent);
-    damaged(b"payload CRC bit 2 wrong", 10, sent);
-    damaged(b"PSI bit 7 wrong", 23, sent);
-    damaged(b"message bit 100 wrong", 124, sent);
-    damaged(b"mode bit 1 wrong", 185, sent);
+fn wrong_bits<R: Print>(rt: &R, sent: &[u8; 20]) -> std::io::Result<()> {
+    damaged(rt, b"header CRC bit 3 wrong", 3, sent)?;
+    damaged(rt, b"payload CRC bit 2 wrong", 10, sent)?;
+    damaged(rt, b"PSI bit 7 wrong", 23, sent)?;
+    damaged(rt, b"message bit 100 wrong", 124, sent)?;
+    damaged(rt, b"mode bit 1 wrong", 185, sent)?;
+    Ok(())
 }
 
 // A bit wrong that the header CRC covers, and the header CRC right.
-fn wrong_bits_mended(sent: &[u8; 20]) {
-    damaged_and_mended(b"payload CRC bit 2 wrong, header CRC right", 10, sent);
-    damaged_and_mended(b"PSI bit 7 wrong, header CRC right", 23, sent);
+fn wrong_bits_mended<R: Print>(rt: &R, sent: &[u8; 20]) -> std::io::Result<()> {
+    damaged_and_mended(rt, b"payload CRC bit 2 wrong, header CRC right", 10, sent)?;
+    damaged_and_mended(rt, b"PSI bit 7 wrong, header CRC right", 23, sent)?;
+    Ok(())
 }
 
 // Values on the wrong side, one after another, among weights of 60. Values 100 and 400 stand for a coded 1, and are -128.
-fn wrong_sides(sent: &[u8; 20]) {
+fn wrong_sides<R: Print>(rt: &R, sent: &[u8; 20]) -> std::io::Result<()> {
     let marks = [1u8; 24];
     let clean = heard(good_payload(sent), 60, 196);
     let one = against(clean, 100, 127, 128);
     let two = against(one, 101, 3, 253);
     let three = against(two, 102, 60, 196);
     let four = against(three, 400, 127, 128);
-    recover_case(b"value 100 wrong by 128", &marks, &one, sent);
-    recover_case(b"and value 101 by 3", &marks, &two, sent);
-    recover_case(b"and value 102 by 60", &marks, &three, sent);
-    recover_case(b"and value 400 by 128", &marks, &four, sent);
+    recover_case(rt, b"value 100 wrong by 128", &marks, &one, sent)?;
+    recover_case(rt, b"and value 101 by 3", &marks, &two, sent)?;
+    recover_case(rt, b"and value 102 by 60", &marks, &three, sent)?;
+    recover_case(rt, b"and value 400 by 128", &marks, &four, sent)?;
+    Ok(())
 }
 
 // No bit and no value wrong.
-fn clean(sent: &[u8; 20]) {
+fn clean<R: Print>(rt: &R, sent: &[u8; 20]) -> std::io::Result<()> {
     let marks = [1u8; 24];
     let values = heard(good_payload(sent), 1, 255);
-    recover_case(b"no bit wrong", &marks, &values, sent);
+    recover_case(rt, b"no bit wrong", &marks, &values, sent)?;
+    Ok(())
 }
 
 // The least value that there is, on the right side.
-fn least_values(sent: &[u8; 20]) {
+fn least_values<R: Print>(rt: &R, sent: &[u8; 20]) -> std::io::Result<()> {
     let marks = [1u8; 24];
     let values = heard(good_payload(sent), 1, 128);
-    recover_case(b"each coded 0 heard as -128", &marks, &values, sent);
+    recover_case(rt, b"each coded 0 heard as -128", &marks, &values, sent)?;
+    Ok(())
 }
 
 // Two sub-packets lost, with values on the wrong side that count for nothing.
-fn lost(sent: &[u8; 20]) {
+fn lost<R: Print>(rt: &R, sent: &[u8; 20]) -> std::io::Result<()> {
     let mut marks = [1u8; 24];
     marks[4] = 0;
     marks[17] = 0;
@@ -138,16 +159,18 @@ fn lost(sent: &[u8; 20]) {
     let two = against(one, 119, 127, 128);
     let three = against(two, 408, 127, 128);
     let four = against(three, 431, 127, 128);
-    recover_case(b"wrong values in lost sub-packets", &marks, &four, sent);
+    recover_case(rt, b"wrong values in lost sub-packets", &marks, &four, sent)?;
+    Ok(())
 }
 
-fn main() {
+fn main(rt: HostRuntime) -> std::io::Result<()> {
     let mut message = [0u8; 20];
     runs_show::some_message(&mut message);
-    clean(&message);
-    wrong_bits(&message);
-    wrong_bits_mended(&message);
-    wrong_sides(&message);
-    least_values(&message);
-    lost(&message);
+    clean(&rt, &message)?;
+    wrong_bits(&rt, &message)?;
+    wrong_bits_mended(&rt, &message)?;
+    wrong_sides(&rt, &message)?;
+    least_values(&rt, &message)?;
+    lost(&rt, &message)?;
+    Ok(())
 }

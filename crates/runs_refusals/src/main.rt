@@ -1,159 +1,201 @@
 // Document 01's refusals at their edges, a line for each case: what was asked, then `done` with its numbers or `refused` with its number.
 // Building: L 19, 20, 255 and 256, a message and a frame one byte short, mode 3 and 4. Recovering: the same edges, a mark 2, silence,
 // a clean frame of the shortest and of the longest message, and the frame of vector Q.Z.5, whose PSI is 16, heard as one of 20 bytes.
+#![tactic(auto)]
+
 ghost use Rattle.std.specs.Prelude.{◌≡◌, ◌<◌};
 
 // Builds and writes the line.
-fn build_case(l: u64, mode: u64, message: &[u8], frame: &mut [u8]) {
-    runs_show::counted(b"build L ", l);
-    runs_show::counted(b", mode ", mode);
-    runs_show::counted(b", message ", message.len() as u64);
-    runs_show::counted(b", room ", frame.len() as u64);
+fn build_case<R: Print>(
+    rt: &R,
+    l: u64,
+    mode: u64,
+    message: &[u8],
+    frame: &mut [u8],
+) -> std::io::Result<()> {
+    runs_show::counted(rt, b"build L ", l)?;
+    runs_show::counted(rt, b", mode ", mode)?;
+    runs_show::counted(rt, b", message ", message.len() as u64)?;
+    runs_show::counted(rt, b", room ", frame.len() as u64)?;
     let answer = uplink::build(l, mode, message, frame);
-    runs_show::show_built(answer);
-    runs_show::text(b"\n");
+    runs_show::show_built(rt, answer)?;
+    runs_show::text(rt, b"\n")?;
+    Ok(())
 }
 
 // Recovers and writes the line, but for its end. `what` says what the values are.
-fn recover_asked(what: &[u8], l: u64, marks: &[u8], values: &[u8], message: &mut [u8]) {
-    runs_show::counted(b"recover L ", l);
-    runs_show::counted(b", marks ", marks.len() as u64);
-    runs_show::counted(b", values ", values.len() as u64);
-    runs_show::counted(b", room ", message.len() as u64);
-    runs_show::text(what);
+fn recover_asked<R: Print>(
+    rt: &R,
+    what: &[u8],
+    l: u64,
+    marks: &[u8],
+    values: &[u8],
+    message: &mut [u8],
+) -> std::io::Result<()> {
+    runs_show::counted(rt, b"recover L ", l)?;
+    runs_show::counted(rt, b", marks ", marks.len() as u64)?;
+    runs_show::counted(rt, b", values ", values.len() as u64)?;
+    runs_show::counted(rt, b", room ", message.len() as u64)?;
+    runs_show::text(rt, what)?;
     let answer = uplink::recover(l, marks, values, message);
-    runs_show::show_recovered(answer);
+    runs_show::show_recovered(rt, answer)?;
+    Ok(())
 }
 
 // Recovers and writes the line.
-fn recover_case(what: &[u8], l: u64, marks: &[u8], values: &[u8], message: &mut [u8]) {
-    recover_asked(what, l, marks, values, message);
-    runs_show::text(b"\n");
+fn recover_case<R: Print>(
+    rt: &R,
+    what: &[u8],
+    l: u64,
+    marks: &[u8],
+    values: &[u8],
+    message: &mut [u8],
+) -> std::io::Result<()> {
+    recover_asked(rt, what, l, marks, values, message)?;
+    runs_show::text(rt, b"\n")?;
+    Ok(())
 }
 
 // The shortest length, and one below it, with all that they ask for.
-fn build_shortest() {
+fn build_shortest<R: Print>(rt: &R) -> std::io::Result<()> {
     let below = [0x5Au8; 19];
     let message = [0x5Au8; 20];
     let mut below_frame = [0u8; 828];
     let mut frame = [0u8; 864];
-    build_case(19, 0, &below, &mut below_frame);
-    build_case(20, 0, &message, &mut frame);
+    build_case(rt, 19, 0, &below, &mut below_frame)?;
+    build_case(rt, 20, 0, &message, &mut frame)?;
+    Ok(())
 }
 
 // The longest length, and one above it, with all that they ask for.
-fn build_longest() {
+fn build_longest<R: Print>(rt: &R) -> std::io::Result<()> {
     let message = [0x5Au8; 255];
     let above = [0x5Au8; 256];
     let mut frame = [0u8; 9324];
     let mut above_frame = [0u8; 9360];
-    build_case(255, 0, &message, &mut frame);
-    build_case(256, 0, &above, &mut above_frame);
+    build_case(rt, 255, 0, &message, &mut frame)?;
+    build_case(rt, 256, 0, &above, &mut above_frame)?;
+    Ok(())
 }
 
 // A message and a frame one byte short.
-fn build_sizes() {
+fn build_sizes<R: Print>(rt: &R) -> std::io::Result<()> {
     let short = [0x5Au8; 19];
     let message = [0x5Au8; 20];
     let mut frame = [0u8; 864];
     let mut short_frame = [0u8; 863];
-    build_case(20, 0, &short, &mut frame);
-    build_case(20, 0, &message, &mut short_frame);
+    build_case(rt, 20, 0, &short, &mut frame)?;
+    build_case(rt, 20, 0, &message, &mut short_frame)?;
+    Ok(())
 }
 
 // The modes about the limit.
-fn build_modes() {
+fn build_modes<R: Print>(rt: &R) -> std::io::Result<()> {
     let message = [0x5Au8; 20];
     let mut frame = [0u8; 864];
-    build_case(20, 3, &message, &mut frame);
-    build_case(20, 4, &message, &mut frame);
+    build_case(rt, 20, 3, &message, &mut frame)?;
+    build_case(rt, 20, 4, &message, &mut frame)?;
+    Ok(())
 }
 
 // Lengths outside the limits, with all that they would ask for.
-fn recover_lengths() {
+fn recover_lengths<R: Print>(rt: &R) -> std::io::Result<()> {
     let marks_19 = [1u8; 23];
     let values_19 = [1u8; 552];
     let marks_256 = [1u8; 260];
     let values_256 = [1u8; 6240];
     let mut message = [0u8; 256];
-    recover_case(b"", 19, &marks_19, &values_19, &mut message);
-    recover_case(b"", 256, &marks_256, &values_256, &mut message);
+    recover_case(rt, b"", 19, &marks_19, &values_19, &mut message)?;
+    recover_case(rt, b"", 256, &marks_256, &values_256, &mut message)?;
+    Ok(())
 }
 
 // A mark and a value short.
-fn recover_sizes() {
+fn recover_sizes<R: Print>(rt: &R) -> std::io::Result<()> {
     let marks = [1u8; 24];
     let short_marks = [1u8; 23];
     let values = [1u8; 576];
     let short_values = [1u8; 575];
     let mut message = [0u8; 20];
-    recover_case(b"", 20, &short_marks, &values, &mut message);
-    recover_case(b"", 20, &marks, &short_values, &mut message);
+    recover_case(rt, b"", 20, &short_marks, &values, &mut message)?;
+    recover_case(rt, b"", 20, &marks, &short_values, &mut message)?;
+    Ok(())
 }
 
 // A byte of room short.
-fn recover_room() {
+fn recover_room<R: Print>(rt: &R) -> std::io::Result<()> {
     let marks = [1u8; 24];
     let values = [1u8; 576];
     let mut message = [0u8; 19];
-    recover_case(b"", 20, &marks, &values, &mut message);
+    recover_case(rt, b"", 20, &marks, &values, &mut message)?;
+    Ok(())
 }
 
 // Recovers 20 bytes from marks and values that have the right sizes.
-fn recover_sized(what: &[u8], marks: &[u8; 24], values: &[u8; 576]) {
+fn recover_sized<R: Print>(
+    rt: &R,
+    what: &[u8],
+    marks: &[u8; 24],
+    values: &[u8; 576],
+) -> std::io::Result<()> {
     let mut message = [0u8; 20];
-    recover_case(what, 20, marks, values, &mut message);
+    recover_case(rt, what, 20, marks, values, &mut message)?;
+    Ok(())
 }
 
 // A mark that is neither 0 nor 1, also in silence.
-fn recover_marks() {
+fn recover_marks<R: Print>(rt: &R) -> std::io::Result<()> {
     let values = [1u8; 576];
     let mut odd = [1u8; 24];
     odd[23] = 2;
-    recover_sized(b", last mark 2", &odd, &values);
+    recover_sized(rt, b", last mark 2", &odd, &values)?;
     let mut odd_lost = [0u8; 24];
     odd_lost[0] = 2;
-    recover_sized(b", first mark 2, all others 0", &odd_lost, &values);
+    recover_sized(rt, b", first mark 2, all others 0", &odd_lost, &values)?;
+    Ok(())
 }
 
 // The two kinds of silence.
-fn recover_silence() {
+fn recover_silence<R: Print>(rt: &R) -> std::io::Result<()> {
     let lost = [0u8; 24];
     let values = [1u8; 576];
-    recover_sized(b", all marks 0", &lost, &values);
+    recover_sized(rt, b", all marks 0", &lost, &values)?;
     let heard = [1u8; 24];
     let zeros = [0u8; 576];
-    recover_sized(b", all values 0", &heard, &zeros);
+    recover_sized(rt, b", all values 0", &heard, &zeros)?;
+    Ok(())
 }
 
 // The shortest message, built and heard clean.
-fn clean_20() {
+fn clean_20<R: Print>(rt: &R) -> std::io::Result<()> {
     let mut message = [0u8; 20];
     runs_show::some_message(&mut message);
     let mut frame = [0u8; 864];
-    build_case(20, 2, &message, &mut frame);
+    build_case(rt, 20, 2, &message, &mut frame)?;
     let marks = [1u8; 24];
     let mut values = [0u8; 576];
     runs_show::hear(24, &frame, 1, 255, &mut values);
     let before = [0u8; 20];
     let mut back = [0u8; 20];
-    recover_asked(b", clean", 20, &marks, &values, &mut back);
-    runs_show::show_back(&message, &before, &back);
+    recover_asked(rt, b", clean", 20, &marks, &values, &mut back)?;
+    runs_show::show_back(rt, &message, &before, &back)?;
+    Ok(())
 }
 
 // The longest message, built and heard clean.
-fn clean_255() {
+fn clean_255<R: Print>(rt: &R) -> std::io::Result<()> {
     let mut message = [0u8; 255];
     runs_show::some_message(&mut message);
     let mut frame = [0u8; 9324];
-    build_case(255, 3, &message, &mut frame);
+    build_case(rt, 255, 3, &message, &mut frame)?;
     let marks = [1u8; 259];
     let mut values = [0u8; 6216];
     runs_show::hear(259, &frame, 1, 255, &mut values);
     let before = [0u8; 255];
     let mut back = [0u8; 255];
-    recover_asked(b", clean", 255, &marks, &values, &mut back);
-    runs_show::show_back(&message, &before, &back);
+    recover_asked(rt, b", clean", 255, &marks, &values, &mut back)?;
+    runs_show::show_back(rt, &message, &before, &back)?;
+    Ok(())
 }
 
 // The bit that a printed digit says.
@@ -214,27 +256,29 @@ fn hear_fourth_six(v: &mut [u8; 576]) {
 }
 
 // The whole vector; its PSI is 16.
-fn vector() {
+fn vector<R: Print>(rt: &R) -> std::io::Result<()> {
     let mut v = [0u8; 576];
     hear_first_six(&mut v);
     hear_second_six(&mut v);
     hear_third_six(&mut v);
     hear_fourth_six(&mut v);
     let marks = [1u8; 24];
-    recover_sized(b", Q.Z.5", &marks, &v);
+    recover_sized(rt, b", Q.Z.5", &marks, &v)?;
+    Ok(())
 }
 
-fn main() {
-    build_shortest();
-    build_longest();
-    build_sizes();
-    build_modes();
-    recover_lengths();
-    recover_sizes();
-    recover_room();
-    recover_marks();
-    recover_silence();
-    clean_20();
-    clean_255();
-    vector();
+fn main(rt: HostRuntime) -> std::io::Result<()> {
+    build_shortest(&rt)?;
+    build_longest(&rt)?;
+    build_sizes(&rt)?;
+    build_modes(&rt)?;
+    recover_lengths(&rt)?;
+    recover_sizes(&rt)?;
+    recover_room(&rt)?;
+    recover_marks(&rt)?;
+    recover_silence(&rt)?;
+    clean_20(&rt)?;
+    clean_255(&rt)?;
+    vector(&rt)?;
+    Ok(())
 }

@@ -1,54 +1,55 @@
 // What the runs of document 01's cases share: a message to send, hearing a frame, and writing what an operation answered.
+#![tactic(auto)]
+
 ghost use Rattle.std.specs.Prelude.{◌≡◌, ◌+◌, ◌*◌, ◌≤◌, ◌<◌, ◌/◌, length};
 
-use libc::STDOUT_FILENO;
 use uplink::{Built, Recovered};
 
 // Writes text as it is.
-pub fn text(words: &[u8]) {
-    io::write_all(STDOUT_FILENO, words);
+pub fn text<R: Print>(rt: &R, words: &[u8]) -> std::io::Result<()> {
+    rt.write_all(words)
 }
 
 // Writes a number in decimal, after text.
-pub fn counted(words: &[u8], n: u64) {
-    text(words);
-    io::print_decimal(STDOUT_FILENO, n);
+pub fn counted<R: Print>(rt: &R, words: &[u8], n: u64) -> std::io::Result<()> {
+    text(rt, words)?;
+    print!(rt; "{n}")
 }
 
 // Writes a byte as two hexadecimal digits, after text.
-pub fn hex(words: &[u8], byte: u8) {
-    text(words);
-    io::print_hex(STDOUT_FILENO, byte as u64, 2);
+pub fn hex<R: Print>(rt: &R, words: &[u8], byte: u8) -> std::io::Result<()> {
+    text(rt, words)?;
+    print!(rt; "{byte:02x}")
 }
 
 // Writes what building answered.
-pub fn show_built(answer: Built) {
+pub fn show_built<R: Print>(rt: &R, answer: Built) -> std::io::Result<()> {
     match answer {
-        Built::Done(size) => counted(b": done ", size as u64),
-        Built::Refused(number) => counted(b": refused ", number as u64),
+        Built::Done(size) => counted(rt, b": done ", size as u64),
+        Built::Refused(number) => counted(rt, b": refused ", number as u64),
     }
 }
 
 // Writes what recovering answered: length, mode and cost, or the number of the refusal.
-pub fn show_recovered(answer: Recovered) {
+pub fn show_recovered<R: Print>(rt: &R, answer: Recovered) -> std::io::Result<()> {
     match answer {
         Recovered::Done { length, mode, cost } => {
-            counted(b": done ", length as u64);
-            counted(b" ", mode as u64);
-            counted(b" ", cost as u64);
+            counted(rt, b": done ", length as u64)?;
+            counted(rt, b" ", mode as u64)?;
+            counted(rt, b" ", cost as u64)
         }
-        Recovered::Refused(number) => counted(b": refused ", number as u64),
+        Recovered::Refused(number) => counted(rt, b": refused ", number as u64),
     }
 }
 
 // Writes what the lent buffer holds afterwards, the message that was sent or what it held before, and ends the line.
-pub fn show_back(sent: &[u8], before: &[u8], back: &[u8]) {
+pub fn show_back<R: Print>(rt: &R, sent: &[u8], before: &[u8], back: &[u8]) -> std::io::Result<()> {
     if same(sent, back) {
-        text(b", message as sent\n");
+        text(rt, b", message as sent\n")
     } else if same(before, back) {
-        text(b", nothing written\n");
+        text(rt, b", nothing written\n")
     } else {
-        text(b", another message\n");
+        text(rt, b", another message\n")
     }
 }
 

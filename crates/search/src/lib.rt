@@ -1,5 +1,7 @@
 // The search: of all strings of n bits the nearest to the values heard, and what it costs.
 // Rows of 64 remaining costs go backward in time, one decision a state and step is kept, and a walk goes forward through the decisions.
+#![tactic(auto)]
+
 ghost use Rattle.std.specs.Prelude.{Bool, map, ◌++◌, ◌≡◌, ◌+◌, ◌-◌, ◌*◌, ◌≤◌, length, drop};
 ghost use Rattle.bits.specs.Bits.{bit};
 ghost use Rattle.rows.specs.Rows.{Low};
@@ -25,7 +27,7 @@ fn spare(first: u16) -> u16
 }
 
 // A row and what was taken off its costs.
-#[derive(Drop)]
+#[derive(Clone, Copy)]
 pub struct Level {
     pub row: [u16; 64],
     pub off: u32,

@@ -1,5 +1,7 @@
 // One step of the search, on rows of 64 costs passed and returned by value: the costs at one moment from those at the next, and what each state would take.
 // Each function says only what it does with the numbers it is given; that the rows are remaining costs is shown above, in `search`.
+#![tactic(auto)]
+
 ghost use Rattle.std.specs.Prelude.{true, false, [], ◌∷◌, ◌≡◌, ◌+◌, ◌≤◌, min, ltb, length};
 ghost use Rattle.bits.specs.Bits.{bit};
 ghost use Rattle.rows.specs.Rows.{Opposes, Six, Arranged, Split, Halves, Low, Summed, Within, Least, Chosen, AtLeast, Lowered, pairs_of};
@@ -19,7 +21,7 @@ fn against_one(v: u8) -> u16
 }
 
 // What a step costs: that of taking 0 in the first 16 even states, what is left of the whole by taking 0 in the other 16, and the weight of all three values.
-#[derive(Drop)]
+#[derive(Clone, Copy)]
 pub struct Weighed {
     pub low: [u16; 16],
     pub high: [u16; 16],
@@ -65,7 +67,7 @@ pub fn weigh(a: u8, b: u8, c: u8) -> Weighed
 }
 
 // What taking 0 and taking 1 costs in each state, with all that follows: the even states in the first 32 places, the odd ones in the others.
-#[derive(Drop)]
+#[derive(Clone, Copy)]
 pub struct Moves {
     pub zero: [u16; 64],
     pub one: [u16; 64],

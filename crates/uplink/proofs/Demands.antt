@@ -2,8 +2,7 @@
 -- Assumes nothing.
 use mathlib.Core.List.{List, ◌++◌}
 use mathlib.Core.Path.{◌≡◌, refl, sym, ap, subst, ◌∙◌}
-use Prim.Native.Nat.{ℕ, ◌+◌}
-use native.Mathlib.Omega.{arith}
+use Prim.Native.Nat.{ℕ}
 use borrow.Author.Tests.{eq-eqb, ne_eqb}
 use lib.ListN.{length, take, drop}
 use lib.Seq.{take_at}

@@ -1,4 +1,6 @@
 // Building and recovering the uplink frame of a message, document 01. Neither asks anything of its caller: what cannot be taken is refused by its number.
+#![tactic(auto)]
+
 pub mod judge;
 
 ghost use Rattle.std.specs.Prelude.{◌≡◌};
@@ -9,14 +11,14 @@ ghost use Rattle.uplink.specs.Parts.{Buildable, Put, Hearing, Nearing};
 use payload::Opened;
 
 // What building answers: the bytes written, or the number of the refusal.
-#[derive(Drop)]
+#[derive(Clone, Copy)]
 pub enum Built {
     Done(u32),
     Refused(u32),
 }
 
 // What recovering answers: the length of the message, its mode and the cost of the nearest string, or the number of the refusal.
-#[derive(Drop)]
+#[derive(Clone, Copy)]
 pub enum Recovered {
     Done { length: u32, mode: u32, cost: u32 },
     Refused(u32),

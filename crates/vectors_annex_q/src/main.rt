@@ -1,8 +1,8 @@
 // Vector Q.Z.5 of document 000 (OMS Annex Q, Splitting Mode), step by step: checks, whitening, coding, interleaving, radio-bursts. Each step is
 // written in the paper's form, and `stdout` is copied from the paper: the hex lines, the listing after whitening and Table Q.Z.19.
-ghost use Rattle.std.specs.Prelude.{◌≡◌, ◌+◌, ◌*◌, ◌≤◌, ◌<◌, length};
+#![tactic(auto)]
 
-use libc::STDOUT_FILENO;
+ghost use Rattle.std.specs.Prelude.{◌≡◌, ◌+◌, ◌*◌, ◌≤◌, ◌<◌, length};
 
 // The number of bytes of the MPDU, which PSI carries in this vector.
 const PSI: u8 = 0x10;
@@ -85,40 +85,49 @@ fn four(a: u8, b: u8, c: u8, d: u8) -> u8
     8 * one(a) + 4 * one(b) + 2 * one(c) + one(d)
 }
 
+// Writes text as it is.
+fn text<R: Print>(rt: &R, words: &[u8]) -> std::io::Result<()> {
+    rt.write_all(words)
+}
+
 // Writes a hexadecimal digit.
-fn print_digit(v: u8)
+fn print_digit<R: Print>(rt: &R, v: u8) -> std::io::Result<()>
     requires { v < 16 }
 {
-    let text = [if v < 10 { 48 + v } else { 55 + v }];
-    io::write_all(STDOUT_FILENO, &text);
+    let digit = [if v < 10 { 48 + v } else { 55 + v }];
+    text(rt, &digit)?;
+    Ok(())
 }
 
 // Writes a byte as two hexadecimal digits.
-fn print_byte(v: u8) {
-    print_digit(v / 16);
-    print_digit(v % 16);
+fn print_byte<R: Print>(rt: &R, v: u8) -> std::io::Result<()> {
+    print_digit(rt, v / 16)?;
+    print_digit(rt, v % 16)?;
+    Ok(())
 }
 
 // Writes bits as they are, 0 or 1.
-fn print_bits(bits: &[u8]) {
+fn print_bits<R: Print>(rt: &R, bits: &[u8]) -> std::io::Result<()> {
     let mut i: usize = 0;
     while i < bits.len() {
-        print_digit(one(bits[i]));
+        print_digit(rt, one(bits[i]))?;
         i += 1;
     }
+    Ok(())
 }
 
 // Writes bits as hexadecimal digits, four to a digit.
-fn print_hex(bits: &[u8]) {
+fn print_hex<R: Print>(rt: &R, bits: &[u8]) -> std::io::Result<()> {
     let mut i: usize = 0;
     while 4 <= bits.len() - i {
-        print_digit(four(bits[i], bits[i + 1], bits[i + 2], bits[i + 3]));
+        print_digit(rt, four(bits[i], bits[i + 1], bits[i + 2], bits[i + 3]))?;
         i += 4;
     }
+    Ok(())
 }
 
 // Writes the 24 data symbols of each burst, burst after burst.
-fn print_interleaved(frame: &[u8])
+fn print_interleaved<R: Print>(rt: &R, frame: &[u8]) -> std::io::Result<()>
     requires { 864 ≤ length frame.now }
 {
     let mut s: usize = 0;
@@ -127,62 +136,60 @@ fn print_interleaved(frame: &[u8])
         let pilot = start + 12;
         let second = start + 24;
         let end = start + 36;
-        print_hex(&frame[start..pilot]);
-        print_hex(&frame[second..end]);
+        print_hex(rt, &frame[start..pilot])?;
+        print_hex(rt, &frame[second..end])?;
         s += 1;
     }
+    Ok(())
 }
 
 // Writes a burst on a line, after its number: 36 symbols, the pilot in the middle.
-fn print_burst(s: usize, burst: &[u8]) {
-    io::print_decimal(STDOUT_FILENO, s as u64);
-    io::write_all(STDOUT_FILENO, b" ");
-    print_bits(burst);
-    io::write_all(STDOUT_FILENO, b"\n");
+fn print_burst<R: Print>(rt: &R, s: usize, burst: &[u8]) -> std::io::Result<()> {
+    print!(rt; "{s}")?;
+    text(rt, b" ")?;
+    print_bits(rt, burst)?;
+    text(rt, b"\n")?;
+    Ok(())
 }
 
 // Writes the bursts of the core.
-fn print_bursts(frame: &[u8])
+fn print_bursts<R: Print>(rt: &R, frame: &[u8]) -> std::io::Result<()>
     requires { 864 ≤ length frame.now }
 {
     let mut s: usize = 0;
     while s < 24 {
         let start = 36 * s;
         let end = start + 36;
-        print_burst(s, &frame[start..end]);
+        print_burst(rt, s, &frame[start..end])?;
         s += 1;
     }
+    Ok(())
 }
 
-fn main() {
+fn main(rt: HostRuntime) -> std::io::Result<()> {
     let mpdu = mpdu();
     let payload_crc = payload_crc(&mpdu);
-    io::write_all(STDOUT_FILENO, b"CRC Payload (8 bit): ");
-    print_byte(payload_crc);
+    text(&rt, b"CRC Payload (8 bit): ")?;
+    print_byte(&rt, payload_crc)?;
     let header_crc = header_crc(payload_crc);
-    io::write_all(STDOUT_FILENO, b"\nCRC Header (8 bit): ");
-    print_byte(header_crc);
+    text(&rt, b"\nCRC Header (8 bit): ")?;
+    print_byte(&rt, header_crc)?;
 
     let mut payload = payload(&mpdu, header_crc, payload_crc);
     whiten::apply(&mut payload);
-    io::write_all(STDOUT_FILENO, b"\nPHY Payload after whitening (186 bit): ");
-    print_bits(&payload);
+    text(&rt, b"\nPHY Payload after whitening (186 bit): ")?;
+    print_bits(&rt, &payload)?;
 
     let mut coded = [0u8; 576];
     coder::encode(&payload, &mut coded);
-    io::write_all(STDOUT_FILENO, b"\nCoded Payload (576 bit): ");
-    print_hex(&coded);
+    text(&rt, b"\nCoded Payload (576 bit): ")?;
+    print_hex(&rt, &coded)?;
 
     let mut frame = [0u8; 864];
     placing::fill(20, &coded, &mut frame);
-    io::write_all(
-        STDOUT_FILENO,
-        b"\nCoded Payload after interleaving (576 bit): ",
-    );
-    print_interleaved(&frame);
-    io::write_all(
-        STDOUT_FILENO,
-        b"\nResulting 24 Radio-bursts of core frame:\n",
-    );
-    print_bursts(&frame);
+    text(&rt, b"\nCoded Payload after interleaving (576 bit): ")?;
+    print_interleaved(&rt, &frame)?;
+    text(&rt, b"\nResulting 24 Radio-bursts of core frame:\n")?;
+    print_bursts(&rt, &frame)?;
+    Ok(())
 }

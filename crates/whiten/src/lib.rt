@@ -1,4 +1,6 @@
 // Whitening by the sequence of 511 bits: one bit of it, and a run of bits whitened in place.
+#![tactic(auto)]
+
 mod table;
 
 ghost use Rattle.std.specs.Bool.{xor};

@@ -1,0 +1,11 @@
+-- `payload::take_message` meets its contract. The loop's invariant: the bytes before i are written (`Taking`).
+-- The measure is what is left of the message. Assumes nothing.
+use native.Mathlib.Omega.{arith}
+use Rattle.payload.proofs.Taking.{taking_start, taking_step}
+use Rattle.payload.proofs.take_message.Goals as goal
+
+pub loop-i-init : goal.loop-i-init
+loop-i-init c = taking_start _ _ _ c.requires.room
+
+pub loop-i-preserved : goal.loop-i-preserved
+loop-i-preserved c = taking_step c.loop-i.invariant (omega arith) c.byte_at.ensures

@@ -1,0 +1,10 @@
+-- `placing::gather_core` meets its contract. The loop's invariant: the sub-packets before s are gathered. Assumes nothing.
+use Prim.Native.Nat.{◌-◌, ◌*◌, ◌≤◌}
+use Rattle.pairs.specs.Turns.{Gathered}
+use Rattle.placing.proofs.gather_core.Given as goal
+
+abbrev pub invariant-loop-s : goal.invariant-loop-s
+invariant-loop-s l = (l.s ≤ 24) × Gathered l.l l.marks l.values 0 (24 * l.s) l.initial.out l.out
+
+abbrev pub decreases-loop-s : goal.decreases-loop-s
+decreases-loop-s l = 24 - l.s
