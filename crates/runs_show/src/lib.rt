@@ -96,9 +96,9 @@ pub fn side(bit: u8, one: u8, zero: u8) -> u8 {
 
 // The values of the sub-packets of a frame: each coded 1 heard as `one`, each coded 0 as `zero`.
 pub fn hear(packets: usize, frame: &[u8], one: u8, zero: u8, values: &mut [u8])
-    requires packets_bound { packets ≤ 259 }
-    requires packets_in_bounds { 36 * packets ≤ length frame.now }
-    requires packets_in_bounds_2 { 24 * packets ≤ length values.old }
+    requires most { packets ≤ 259 }
+    requires frame_holds { 36 * packets ≤ length frame.now }
+    requires values_hold { 24 * packets ≤ length values.old }
 {
     let end = 24 * packets;
     let mut v: usize = 0;

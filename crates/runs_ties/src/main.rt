@@ -23,10 +23,10 @@ fn differ(x: u8, y: u8) -> u64
 
 // The values between two frames, 1 and -1: where they differ, they are in turn those of a and of b. Answers in how many places they differ.
 fn hear_between(packets: usize, a: &[u8], b: &[u8], values: &mut [u8]) -> u64
-    requires packets_bound { packets ≤ 259 }
-    requires packets_in_bounds { 36 * packets ≤ length a.now }
-    requires packets_in_bounds_2 { 36 * packets ≤ length b.now }
-    requires packets_in_bounds_3 { 24 * packets ≤ length values.old }
+    requires most { packets ≤ 259 }
+    requires a_holds { 36 * packets ≤ length a.now }
+    requires b_holds { 36 * packets ≤ length b.now }
+    requires values_hold { 24 * packets ≤ length values.old }
 {
     let end = 24 * packets;
     let mut places: u64 = 0;
@@ -74,8 +74,8 @@ fn show_bytes<R: Print>(rt: &R, what: &[u8], message: &[u8], at: usize) -> std::
 
 // Writes where the messages differ, and what they have there.
 fn show_messages<R: Print>(rt: &R, l: u64, at: usize, a: &[u8], b: &[u8]) -> std::io::Result<()>
-    requires at_in_bounds { at + 1 < length a.now }
-    requires at_in_bounds_2 { at + 1 < length b.now }
+    requires a_reaches { at + 1 < length a.now }
+    requires b_reaches { at + 1 < length b.now }
 {
     runs_show::counted(rt, b"L ", l)?;
     runs_show::counted(rt, b", from byte ", at as u64)?;
