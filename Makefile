@@ -13,8 +13,8 @@
 .PHONY: all run install test compare fuzz floats drill bench clean tools
 
 all: tools
-	rt check
-	rt staticlib gateway
+	rt all check
+	tools/built report gateway
 
 run:
 	@test -n "$(CAPTURE)" || { echo "which capture? make run CAPTURE=examples/clean_20.capture" >&2; exit 1; }
@@ -48,4 +48,4 @@ tools:
 	@tools/need rt gcc
 
 clean:
-	rm -rf target
+	rm -rf target crates/*/out
