@@ -1,4 +1,5 @@
--- The theorem of Table 6-43: the rule gives its two rows, all 48 entries, by one computed test. Assumes nothing.
+-- The theorem of Table 6-43: the symbols of `interleave` are its two rows, all 48 entries, by one computed test.
+-- Assumes nothing.
 use mathlib.Core.Path.{◌≡◌, refl, ◌∙◌}
 use Prim.Native.Nat.{ℕ, ◌%◌}
 use Rattle.lists.specs.Lists.{firsts}

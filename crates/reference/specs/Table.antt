@@ -1,4 +1,4 @@
--- Table 6-43 of TS 103 357 as it is printed, and that the rule of `interleave` gives it, entry for entry.
+-- Table 6-43 of TS 103 357 as it is printed, and that the symbols of `interleave` are these, entry for entry.
 -- To be believed: even_row, odd_row. Assumes nothing.
 use Rattle.std.specs.Prelude.{List, [], ◌∷◌, ◌≡◌, ℕ, ◌%◌}
 use Rattle.lists.specs.Lists.{firsts}
