@@ -6,6 +6,8 @@ ghost use Rattle.bits.specs.Bits.{bit, is_one};
 ghost use Rattle.whiten.specs.Whiten.{whitened};
 ghost use Rattle.bench.specs.Alone.{Answered, Gathers};
 
+use interleave::Heard;
+
 // What is answered where the sizes are wrong; no string costs as much.
 pub const REFUSED: u32 = 4294967295;
 
@@ -46,7 +48,7 @@ pub extern "C" fn gloam_bench_gather(l: usize, marks: &[u8], values: &[u8], out:
     if out.len() < 96 + 24 * l {
         return REFUSED;
     }
-    placing::gather(l, marks, values, out);
+    placing::gather(Heard { l, marks, values }, out);
     0
 }
 

@@ -10,6 +10,7 @@ use native.Mathlib.Omega.{arith}
 use lib.ListN.{length, get_or, length-append}
 use lib.Arith.{digits_lt}
 use lib.Pow.{pow-add, field, mod-mod-pow, mod-pow-add, high, low}
+use mir.Val.{bool_byte}
 use Rattle.bits.specs.Bits.{bit, is_one, bits_of, bits_of_bytes, number_of}
 
 -- a bit and the byte that carries it
@@ -26,6 +27,11 @@ pub bit-is_one : (v : ℕ) → v < 2 → bit (is_one v) ≡ v
 bit-is_one zero h = refl
 bit-is_one (suc zero) h = refl
 bit-is_one (suc (suc v)) h = omega arith
+
+-- a test that is made a number is the byte that carries its answer
+pub bool_byte-bit : (b : Bool) → bool_byte b ≡ bit b
+bool_byte-bit true = refl
+bool_byte-bit false = refl
 
 pub map-is_one-map-bit : (bs : List Bool) → map is_one (map bit bs) ≡ bs
 map-is_one-map-bit [] = refl

@@ -5,8 +5,8 @@ use mathlib.Core.Path.{◌≡◌, refl, ap, ◌∙◌}
 use Prim.Native.Nat.{ℕ, suc, ◌+◌, ◌≤◌, ◌<◌}
 use native.Mathlib.Numerals.{add-one}
 use native.Mathlib.Omega.{arith}
-use lib.ListN.{length, get_or, set, take, drop, length-append, length-set}
-use lib.Seq.{sets, sets-eq, length-sets, length-take-le, take-suc, take_all, take_at}
+use lib.ListN.{length, get_or, set, take, drop, length-append}
+use lib.Seq.{sets, sets-eq, length-sets, length-take-le, take-suc, take_at}
 use Rattle.buffers.specs.Buffers.{Appends}
 
 -- one run of stores after another
@@ -39,29 +39,14 @@ appends_front {old} {new} {xs} n p e h =
     let size : 0 + length xs ≡ n = omega arith in
     p.stored ∙ sets-eq xs old 0 fits ∙ ap (λ (k : ℕ). xs ++ drop k old) size
 
--- before byte i: the bytes before it are stored
-pub record Copying (src old out : List ℕ) (at i : ℕ) : Type 0 where
-  pub within : i ≤ length src
-  pub room : at + length src ≤ length old
-  pub sized : length out ≡ length old
-  pub done : Appends old at (take i src) out (at + i)
-
-pub copying_start : (src old : List ℕ) (at : ℕ) → at + length src ≤ length old → Copying src old old at 0
-copying_start src old at h = record { within = omega arith; room = h; sized = refl; done = record { stored = refl; ends = refl } }
-
-pub copying_step : {src old out : List ℕ} {at i : ℕ} → Copying src old out at i → i < length src → Copying src old (set out (at + i) (get_or src i 0)) at (i + 1)
-copying_step {src} {old} {out} {at} {i} p h =
+-- one byte of a run more
+pub appends_more :
+    {old out : List ℕ} {at : ℕ} (src : List ℕ) (i : ℕ) → Appends old at (take i src) out (at + i) → i < length src
+    → Appends old at (take (i + 1) src) (set out (at + i) (get_or src i 0)) (at + (i + 1))
+appends_more {old} {out} {at} src i p h =
     let more : take (i + 1) src ≡ take i src ++ (get_or src i 0 ∷ []) = rw (add-one i, take-suc src i 0 h) in
     let one : Appends out (at + i) (get_or src i 0 ∷ []) (set out (at + i) (get_or src i 0)) (at + (i + 1)) = record { stored = refl; ends = omega arith } in
-    record {
-      within = omega arith;
-      room = p.room;
-      sized = length-set out (at + i) (get_or src i 0) ∙ p.sized;
-      done = rw more (appends_then p.done one);
-    }
-
-pub copying_end : {src old out : List ℕ} {at i : ℕ} → Copying src old out at i → length src ≤ i → Appends old at src out (at + i)
-copying_end {src} {old} {out} {at} {i} p h = rw (take_all i src h) at p.done
+    rw more (appends_then p one)
 
 -- what stands before the place after the bytes: all that stood before them, and then they
 pub take_appends : {old new xs : List ℕ} {at next : ℕ} → Appends old at xs new next → at + length xs ≤ length old → take next new ≡ take at old ++ xs

@@ -9,10 +9,8 @@ pub fn copy_in(src: &[u8], out: &mut [u8], at: usize) -> usize
     requires { at + length src.now ≤ length out.old }
     ensures { Appends out.old at src.now out.new result }
 {
-    let mut i = 0;
-    while i < src.len() {
-        out[at + i] = src[i];
-        i += 1;
+    for (i, byte) in src.iter().enumerate() {
+        out[at + i] = *byte;
     }
-    at + i
+    at + src.len()
 }

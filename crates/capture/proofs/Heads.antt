@@ -4,11 +4,13 @@ use mathlib.Core.Bool.{Bool, true, false, ◌&&◌}
 use mathlib.Core.List.{List, [], ◌∷◌}
 use mathlib.Core.Path.{◌≡◌, refl, sym, ap, ◌∙◌}
 use Prim.Native.Nat.{ℕ, suc, ◌+◌, ◌*◌, ◌-◌, ◌≤◌, ◌<◌}
+use native.Mathlib.Decide.{ℕ_discrete}
 use native.Mathlib.Omega.{arith}
 use borrow.Author.Tests.{eq-eqb, ne_eqb, eqb-true, lt-leb, le-leb}
 use lib.Dec.{eqb}
 use lib.ListN.{length, get_or, take, drop, length-drop}
 use lib.Seq.{take_all, drop-drop}
+use Rattle.std.specs.List.{starts_with}
 use Rattle.capture.specs.Reading.{same_bytes, first_field}
 use Rattle.capture.specs.Parts.{head_of, heads}
 
@@ -46,19 +48,20 @@ head_same (x ∷ []) a b d h = absurd (omega arith)
 head_same (x ∷ y ∷ []) a b d h = absurd (omega arith)
 head_same (x ∷ y ∷ z ∷ rest) a b d h = refl
 
-module _ (c : List ℕ) (a b d : ℕ) (h : 3 ≤ length c) where
-  pub head_wrong_tag : (get_or c 0 0 ≡ a → ⊥) → same_bytes (take 3 c) (a ∷ b ∷ d ∷ []) ≡ false
-  head_wrong_tag n = head_same c a b d h ∙ rw (ne_eqb (get_or c 0 0) a n)
+eqb_sym : (a b : ℕ) → eqb a b ≡ eqb b a
+eqb_sym a b = go (ℕ_discrete a b)
+  where
+    go : Dec (a ≡ b) → eqb a b ≡ eqb b a
+    go (yes e) = eq-eqb a b e ∙ sym (eq-eqb b a (sym e))
+    go (no d) = ne_eqb a b d ∙ sym (ne_eqb b a (λ e. d (sym e)))
 
-  pub head_wrong_high : get_or c 0 0 ≡ a → (get_or c 1 0 ≡ b → ⊥) → same_bytes (take 3 c) (a ∷ b ∷ d ∷ []) ≡ false
-  head_wrong_high p n = head_same c a b d h ∙ rw (eq-eqb (get_or c 0 0) a p, ne_eqb (get_or c 1 0) b n)
-
-  pub head_last : get_or c 0 0 ≡ a → get_or c 1 0 ≡ b → same_bytes (take 3 c) (a ∷ b ∷ d ∷ []) ≡ eqb (get_or c 2 0) d
-  head_last p q = head_same c a b d h ∙ rw (eq-eqb (get_or c 0 0) a p, eq-eqb (get_or c 1 0) b q) (last (eqb (get_or c 2 0) d))
-    where
-      last : (t : Bool) → (t && true) ≡ t
-      last true = refl
-      last false = refl
+-- and so does the library compare what the bytes start with
+pub head_starts : (c : List ℕ) (a b d : ℕ) → 3 ≤ length c → starts_with eqb c (a ∷ b ∷ d ∷ []) ≡ same_bytes (take 3 c) (a ∷ b ∷ d ∷ [])
+unfolding same_bytes
+head_starts [] a b d h = absurd (omega arith)
+head_starts (x ∷ []) a b d h = absurd (omega arith)
+head_starts (x ∷ y ∷ []) a b d h = absurd (omega arith)
+head_starts (x ∷ y ∷ z ∷ rest) a b d h = cc (eqb_sym a x, eqb_sym b y, eqb_sym d z)
 
 -- the first field
 pub first_short : (c : List ℕ) → length c < 4 → first_field c ≡ false

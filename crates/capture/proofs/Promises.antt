@@ -10,10 +10,8 @@ use lib.Dec.{eqb}
 use lib.ListN.{length, take, drop}
 use lib.Seq.{take_at}
 use Rattle.uplink.specs.Recover.{marks_good}
-use Rattle.capture.specs.declared.Written.{Written}
-use Rattle.capture.specs.declared.Read.{Read}
 use Rattle.capture.specs.Capture.{field, packets, capture_of, capture_size}
-use Rattle.capture.specs.Answers.{written_refusal, read_refusal_of, read_length}
+use Rattle.capture.specs.Answers.{Written, Read, written_refusal, read_refusal_of, read_length}
 use Rattle.capture.specs.Writing.{write_refusal, Writes}
 use Rattle.capture.specs.Reading.{same_bytes, first_field, told_in, marks_in, values_from, values_in, whole, read_refusal, Reads}
 use Rattle.capture.specs.Parts.{Writable, Opening}

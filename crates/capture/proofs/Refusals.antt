@@ -2,16 +2,19 @@
 -- Assumes nothing.
 use mathlib.Core.Bool.{Bool, true, false, cond, ◌&&◌, ◌||◌}
 use mathlib.Core.List.{List}
-use mathlib.Core.Path.{◌≡◌, refl}
+use mathlib.Core.Path.{◌≡◌, refl, sym}
 use Prim.Native.Nat.{ℕ, ◌+◌, ◌*◌, ◌≤◌, ◌<◌}
 use native.Mathlib.Omega.{arith}
-use borrow.Author.Tests.{lt-ltb, le-ltb, eq-eqb, ne_eqb, eqb-true, ltb-false}
+use borrow.Author.Tests.{lt-ltb, le-ltb, eq-eqb, eqb-true, ltb-false}
 use lib.Dec.{ltb, eqb}
 use lib.ListN.{length}
 use Rattle.interleave.specs.Interleave.{Length}
 use Rattle.uplink.specs.Build.{length_wrong}
 use Rattle.uplink.specs.Recover.{marks_good}
-use Rattle.uplink.proofs.Refusals.{length_wrong_short, length_wrong_long, length_wrong_right}
+use Rattle.refusals.specs.declared.Refusal.{Refusal}
+use Rattle.refusals.specs.Refusals.{number}
+use Rattle.uplink.specs.Parts.{sizes_refusal}
+use Rattle.uplink.proofs.Refusals.{length_wrong_right, sizes_first}
 use Rattle.capture.specs.Capture.{capture_size}
 use Rattle.capture.specs.Writing.{write_refusal}
 use Rattle.capture.specs.Parts.{Writable}
@@ -29,23 +32,11 @@ pub length_wrong_told : (l : ℕ) → length_wrong l ≡ false → Length l
 length_wrong_told l e = record { low = ltb-false l 20 (or_left (ltb l 20) (ltb 255 l) e); high = ltb-false 255 l (or_right (ltb l 20) (ltb 255 l) e) }
 
 module _ (l : ℕ) (marks values : List ℕ) (room : ℕ) where
-  pub write_short : l < 20 → write_refusal l marks values room ≡ 1
+  pub write_sizes : (r : Refusal) → number r ≡ sizes_refusal l marks values → number r ≡ write_refusal l marks values room
   unfolding write_refusal
-  write_short h = rw (length_wrong_short l h)
-
-  pub write_long : 255 < l → write_refusal l marks values room ≡ 1
-  unfolding write_refusal
-  write_long h = rw (length_wrong_long l h)
-
-  pub write_marks : Length l → (length marks ≡ l + 4 → ⊥) → write_refusal l marks values room ≡ 2
-  unfolding write_refusal
-  write_marks h s = rw (length_wrong_right h, ne_eqb (length marks) (l + 4) s)
+  write_sizes r e = sym (sizes_first l marks values _ r e)
 
   module _ (h : Length l) (m : length marks ≡ l + 4) where
-    pub write_values : (length values ≡ 24 * (l + 4) → ⊥) → write_refusal l marks values room ≡ 2
-    unfolding write_refusal
-    write_values s = rw (length_wrong_right h, eq-eqb (length marks) (l + 4) m, ne_eqb (length values) (24 * (l + 4)) s)
-
     module _ (v : length values ≡ 24 * (l + 4)) where
       pub write_room : room < capture_size l → write_refusal l marks values room ≡ 3
       unfolding write_refusal

@@ -60,39 +60,34 @@ storing_end {count} {s = s} p h =
     rw e at p.done
 
 -- before field s: the values of the fields before it are taken
-pub record Taking (count : ℕ) (c old out : List ℕ) (next s : ℕ) : Type 0 where
+pub record Taking (count : ℕ) (c old out : List ℕ) (s : ℕ) : Type 0 where
   pub within : s ≤ count
   pub fits : ValuesFit count c old
   pub sized : length out ≡ length old
-  pub done : Appends old 0 (values_from s c) out next
+  pub done : Appends old 0 (values_from s c) out (24 * s)
 
-pub taking_start : {count : ℕ} {c old : List ℕ} → ValuesFit count c old → Taking count c old old 0 0
+pub taking_start : {count : ℕ} {c old : List ℕ} → ValuesFit count c old → Taking count c old old 0
 unfolding values_from
 taking_start {old = old} f = record { within = omega arith; fits = f; sized = refl; done = appends_none old 0 }
 
-module _ {count : ℕ} {c old out : List ℕ} {next s : ℕ} (p : Taking count c old out next s) (h : s < count) where
-  pub taking_fits : next + length (take (27 * s + 3 + 24 - (27 * s + 3)) (drop (27 * s + 3) c)) ≤ length out
-  taking_fits =
-      rw (width (27 * s + 3))
-      (omega (
-        arith,
-        length-take-le 24 (drop (27 * s + 3) c) (omega (arith, length-drop (27 * s + 3) c, p.fits.sized)),
-        p.done.ends,
-        p.sized,
-        p.fits.room,
-        length-values_from s c (omega (arith, p.fits.sized)),
-      ))
+module _ {count : ℕ} {c old out : List ℕ} {s : ℕ} (p : Taking count c old out s) (h : s < count) where
+  one_field : length (take (27 * s + 3 + 24 - (27 * s + 3)) (drop (27 * s + 3) c)) ≡ 24
+  one_field = rw (width (27 * s + 3)) (length-take-le 24 (drop (27 * s + 3) c) (omega (arith, length-drop (27 * s + 3) c, p.fits.sized)))
 
-  pub taking_step : {new : List ℕ} {end : ℕ} → Appends out next (take (27 * s + 3 + 24 - (27 * s + 3)) (drop (27 * s + 3) c)) new end → Taking count c old new end (s + 1)
+  pub taking_fits : 24 * s + length (take (27 * s + 3 + 24 - (27 * s + 3)) (drop (27 * s + 3) c)) ≤ length out
+  taking_fits = omega (arith, one_field, p.sized, p.fits.room)
+
+  pub taking_step : {new : List ℕ} {end : ℕ} → Appends out (24 * s) (take (27 * s + 3 + 24 - (27 * s + 3)) (drop (27 * s + 3) c)) new end → Taking count c old new (s + 1)
   taking_step {new} {end} q =
+      let e : end ≡ 24 * (s + 1) = omega (arith, q.ends, one_field) in
       record {
         within = omega arith;
         fits = p.fits;
         sized = appends_length q ∙ p.sized;
-        done = rw (values_from_more s c) (appends_then p.done (rw (width (27 * s + 3)) at q));
+        done = rw (← e, values_from_more s c) (appends_then p.done (rw (width (27 * s + 3)) at q));
       }
 
-pub taking_end : {count : ℕ} {c old out : List ℕ} {next s : ℕ} → Taking count c old out next s → count ≤ s → out ≡ values_from count c ++ drop (24 * count) old
-taking_end {count} {c} {old} {out} {next} {s} p h =
+pub taking_end : {count : ℕ} {c old out : List ℕ} {s : ℕ} → Taking count c old out s → count ≤ s → out ≡ values_from count c ++ drop (24 * count) old
+taking_end {count} {c} {old} {out} {s} p h =
     let e : s ≡ count = omega (arith, p.within) in
     appends_front (24 * count) (rw e at p.done) (length-values_from count c (omega (arith, p.fits.sized))) p.fits.room

@@ -46,8 +46,3 @@ pub record Opening (l : ℕ) (c : List ℕ) : Type 0 where
 pub record ValuesFit (count : ℕ) (c values : List ℕ) : Type 0 where
   pub sized : length c ≡ 27 * count
   pub room : 24 * count ≤ length values
-
--- a byte as a number
-pub record Widened (v r : ℕ) : Type 0 where
-  pub same : r ≡ v
-  pub small : r < 256

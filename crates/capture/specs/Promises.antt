@@ -2,9 +2,7 @@
 -- To be believed: all of it. Assumes nothing.
 use Rattle.std.specs.Prelude.{List, ◌≡◌, ℕ, ◌+◌, ◌*◌, ◌≤◌, length, take}
 use Rattle.capture.specs.Capture.{capture_size}
-use Rattle.capture.specs.declared.Written.{Written}
-use Rattle.capture.specs.declared.Read.{Read}
-use Rattle.capture.specs.Answers.{written_refusal, read_refusal_of, read_length}
+use Rattle.capture.specs.Answers.{Written, Read, written_refusal, read_refusal_of, read_length}
 use Rattle.capture.specs.Writing.{Writes}
 use Rattle.capture.specs.Reading.{Reads}
 

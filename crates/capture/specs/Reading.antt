@@ -4,8 +4,7 @@ use Rattle.std.specs.Prelude.{Bool, true, false, cond, ◌&&◌, ◌||◌, List,
 use Rattle.uplink.specs.Build.{length_wrong}
 use Rattle.uplink.specs.Recover.{marks_good}
 use Rattle.capture.specs.Capture.{capture_of, capture_size}
-use Rattle.capture.specs.declared.Read.{Read}
-use Rattle.capture.specs.Answers.{read_refusal_of, read_length}
+use Rattle.capture.specs.Answers.{Read, read_refusal_of, read_length}
 
 -- two runs of bytes are the same
 unfoldable pub same_bytes : List ℕ → List ℕ → Bool

@@ -4,8 +4,7 @@ use Rattle.std.specs.Prelude.{cond, ◌&&◌, List, ◌++◌, ◌≡◌, ℕ, �
 use Rattle.uplink.specs.Build.{length_wrong}
 use Rattle.uplink.specs.Recover.{marks_good}
 use Rattle.capture.specs.Capture.{capture_of, capture_size}
-use Rattle.capture.specs.declared.Written.{Written}
-use Rattle.capture.specs.Answers.{written_refusal, written_size}
+use Rattle.capture.specs.Answers.{Written, written_refusal, written_size}
 
 -- the first of: 1 length; 2 marks or values not of the exact size; 3 output buffer too short; 5 a mark other than 0 or 1. 0 where none holds
 unfoldable pub write_refusal : ℕ → List ℕ → List ℕ → ℕ → ℕ

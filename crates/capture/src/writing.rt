@@ -1,34 +1,33 @@
 // Writing a capture: what is refused, and the fields one after the other.
-ghost use Rattle.std.specs.Prelude.{◌++◌, ◌≡◌, length, drop};
+ghost use Rattle.std.specs.Prelude.{◌++◌, ◌≡◌, ◌≤◌, length, drop, IfOk};
+ghost use Rattle.refusals.specs.Refusals.{refused};
+ghost use Rattle.uplink.specs.Parts.{HeardOf};
 ghost use Rattle.capture.specs.Capture.{field, packets, capture_of, capture_size};
 ghost use Rattle.capture.specs.Writing.{write_refusal};
-ghost use Rattle.capture.specs.Parts.{FieldFits, PacketsFit, Writable};
+ghost use Rattle.capture.specs.Parts.{FieldFits, PacketsFit};
 ghost use Rattle.buffers.specs.Buffers.{Appends};
 
-// The first refusal of writing that holds of 1, 2, 3, 5, or 0.
-pub fn write_refusal(l: u64, marks: &[u8], values: &[u8], room: usize) -> u32
-    ensures { result ≡ write_refusal l marks.now values.now room }
+use interleave::Heard;
+use refusals::Refusal;
+
+// What can be written; or the first refusal that holds of 1, 2, 3, 5.
+pub fn may_write<'a>(
+    l: u64,
+    marks: &'a [u8],
+    values: &'a [u8],
+    room: usize,
+) -> Result<Heard<'a>, Refusal>
+    ensures refusal { refused result ≡ write_refusal l marks.now values.now room }
+    ensures heard { IfOk result (HeardOf l marks.now values.now) }
 {
-    if l < 20 {
-        return 1;
-    }
-    if 255 < l {
-        return 1;
-    }
-    let told = l as usize;
-    if marks.len() != told + 4 {
-        return 2;
-    }
-    if values.len() != 24 * (told + 4) {
-        return 2;
-    }
-    if room < 119 + 28 * told {
-        return 3;
+    let heard = uplink::judge::sized(l, marks, values)?;
+    if room < 119 + 28 * heard.l {
+        return Err(Refusal::Room);
     }
     if !uplink::judge::marks_good(marks) {
-        return 5;
+        return Err(Refusal::Mark);
     }
-    0
+    Ok(heard)
 }
 
 // Stores a field from `at` on: its tag, its length with the high byte first, its value. Gives the place after it.
@@ -48,22 +47,21 @@ fn put_packets(count: usize, values: &[u8], out: &mut [u8], at: usize) -> usize
     ensures { Appends out.old at (packets count values.now) out.new result }
 {
     let mut next = at;
-    let mut s = 0;
-    while s < count {
+    for s in 0..count {
         let from = 24 * s;
         next = put_field(3, &values[from..from + 24], out, next);
-        s += 1;
     }
     next
 }
 
-// Stores the capture of a length, marks and values that can be written, to the start of `out`. What lies beyond it is kept.
-pub fn put_capture(l: u8, marks: &[u8], values: &[u8], out: &mut [u8])
-    requires { Writable l marks.now values.now (length out.old) }
-    ensures { out.new ≡ capture_of l marks.now values.now ++ drop (capture_size l) out.old }
+// Stores the capture of what was heard to the start of `out`. What lies beyond it is kept.
+pub fn put_capture(heard: Heard, out: &mut [u8])
+    requires { capture_size heard.l ≤ length out.old }
+    ensures { out.new
+        ≡ capture_of heard.entry.l heard.entry.marks.now heard.entry.values.now ++ drop (capture_size heard.entry.l) out.old }
 {
-    let told = [l];
+    let told = [heard.l as u8];
     let second = put_field(1, &told, out, 0);
-    let third = put_field(2, marks, out, second);
-    put_packets(marks.len(), values, out, third);
+    let third = put_field(2, heard.marks, out, second);
+    put_packets(heard.l + 4, heard.values, out, third);
 }

@@ -3,11 +3,12 @@
 use mathlib.Core.Bool.{Bool, true, false, cond}
 use mathlib.Core.List.{List, [], ◌∷◌, ◌++◌, map, map-append, append_assoc, append-nil, reverse_aux}
 use mathlib.Core.Path.{◌≡◌, refl, sym, ap, ◌∙◌}
-use Prim.Native.Nat.{ℕ, ◌+◌, ◌-◌, ◌*◌, ◌/◌, ◌%◌, ◌<◌, ◌≤◌}
+use Prim.Native.Nat.{ℕ, suc, ◌+◌, ◌-◌, ◌*◌, ◌/◌, ◌%◌, ◌<◌, ◌≤◌}
 use native.Mathlib.Numerals.{add-one}
 use native.Mathlib.Omega.{arith}
-use lib.ListN.{length, get_or, take, drop, replicate, length-append, length-drop, length-map, drop_of_length-le, get_or-map}
-use lib.Seq.{sets, sets-eq, length-sets, take-suc, take_all, take_at, drop_at, drop-append-add, drop-drop, length-take-le}
+use lib.ListN.{length, get_or, set, take, drop, replicate}
+use lib.ListN.{length-append, length-drop, length-map, drop_of_length-le, get_or-map}
+use lib.Seq.{sets, sets-eq, drop-append-add, take-suc, take_all, take_at, drop_at, drop-drop, length-take-le}
 use Rattle.bits.specs.Bits.{bit, is_one, bits_of}
 use Rattle.bits.proofs.Bits.{length-bits_of, bits_of_same_rest}
 use Rattle.coder.specs.Coder.{Words, outputs, coded_after, tail, coded, uplink_words}
@@ -56,6 +57,22 @@ pub window_half : (b : Bool) (s : ℕ) → cond b (s + 64) s / 2 ≡ shifted b s
 window_half true s = omega arith
 window_half false s = omega arith
 
+-- the loop that codes a run
+
+-- before bit i: the outputs of the bits before it are written, and s has the last six bits
+pub record Coding (before : ℕ) (bits old out : List ℕ) (s i : ℕ) : Type 0 where
+  pub written : out ≡ map bit (coded_after uplink_words (bits_of 6 before) (take i (map is_one bits))) ++ drop (3 * i) old
+  pub held : Holds (reverse_aux (take i (map is_one bits)) (bits_of 6 before)) s
+
+pub coding_start : (before : ℕ) (bits old : List ℕ) → before < 64 → Coding before bits old old before 0
+unfolding coded_after
+coding_start before bits old h = record { written = refl; held = holds_bits_of before h }
+
+take_more : (bits : List ℕ) (i : ℕ) → i < length bits → take (i + 1) (map is_one bits) ≡ take i (map is_one bits) ++ (is_one (get_or bits i 0) ∷ [])
+take_more bits i h =
+    let inside : i < length (map is_one bits) = rw length-map h in
+    rw (add-one, take-suc (map is_one bits) i (is_one 0) inside, get_or-map is_one bits i 0)
+
 -- a run that is stored after what is there already
 sets_after : (ps rest vs : List ℕ) {n : ℕ} → length ps ≡ n → length vs ≤ length rest
     → sets (ps ++ rest) n vs ≡ (ps ++ vs) ++ drop (length vs) rest
@@ -63,43 +80,36 @@ sets_after ps rest vs {n} e h =
     sets-eq vs (ps ++ rest) n (rw length-append (omega arith))
     ∙ rw (take_at ps rest n e, ← e, drop-append-add)
 
--- the loop that codes a run
-
--- before bit i: the outputs of the bits before it are written, and s has the last six bits
-pub record Coding (before : ℕ) (bits old out : List ℕ) (s i : ℕ) : Type 0 where
-  pub within : i ≤ length bits
-  pub room : 3 * length bits ≤ length old
-  pub sized : length out ≡ length old
-  pub written : out ≡ map bit (coded_after uplink_words (bits_of 6 before) (take i (map is_one bits))) ++ drop (3 * i) old
-  pub held : Holds (reverse_aux (take i (map is_one bits)) (bits_of 6 before)) s
-
-pub coding_start : (before : ℕ) (bits old : List ℕ) → before < 64 → 3 * length bits ≤ length old → Coding before bits old old before 0
-unfolding coded_after
-coding_start before bits old h room =
-    record { within = omega arith; room = room; sized = refl; written = refl; held = holds_bits_of before h }
-
-take_more : (bits : List ℕ) (i : ℕ) → i < length bits → take (i + 1) (map is_one bits) ≡ take i (map is_one bits) ++ (is_one (get_or bits i 0) ∷ [])
-take_more bits i h =
-    let inside : i < length (map is_one bits) = rw length-map h in
-    rw (add-one, take-suc (map is_one bits) i (is_one 0) inside, get_or-map is_one bits i 0)
+-- the three bytes from 3 i on, written over one by one
+abbrev pub stored_at : ℕ → List ℕ → List ℕ → List ℕ
+stored_at i out three =
+    set (set (set out (3 * i) (get_or three 0 0)) (3 * i + 1) (get_or three 1 0)) (3 * i + 2) (get_or three 2 0)
 
 -- the outputs of one bit more, after those of the bits xs
 written_step : (taken xs : List Bool) (b : Bool) (old : List ℕ) (i : ℕ) → length xs ≡ i → 3 * (i + 1) ≤ length old
-    → sets (map bit (coded_after uplink_words taken xs) ++ drop (3 * i) old) (3 * i) (map bit (outputs uplink_words (b ∷ reverse_aux xs taken)))
+    → stored_at i (map bit (coded_after uplink_words taken xs) ++ drop (3 * i) old)
+    (map bit (outputs uplink_words (b ∷ reverse_aux xs taken)))
     ≡ map bit (coded_after uplink_words taken (xs ++ (b ∷ []))) ++ drop (3 * (i + 1)) old
 unfolding coded_after
 written_step taken xs b old i e room =
-    let long : length (map bit (coded_after uplink_words taken xs)) ≡ 3 * i = rw (length-map, length-coded_after, e) in
+    let ps : List ℕ = map bit (coded_after uplink_words taken xs) in
+    let outs : List ℕ = map bit (outputs uplink_words (b ∷ reverse_aux xs taken)) in
+    let rest : List ℕ = drop (3 * i) old in
+    let long : length ps ≡ 3 * i = rw (length-map, length-coded_after, e) in
+    let second : 3 * i + 1 ≡ suc (3 * i) = omega arith in
+    let third : 3 * i + 2 ≡ suc (suc (3 * i)) = omega arith in
     let end : 3 * i + 3 ≡ 3 * (i + 1) = omega arith in
-    sets_after (map bit (coded_after uplink_words taken xs)) (drop (3 * i) old) (map bit (outputs uplink_words (b ∷ reverse_aux xs taken))) long
-    (rw length-drop (omega arith))
+    let run : stored_at i (ps ++ rest) outs ≡ sets (ps ++ rest) (3 * i) outs = rw (second, third) in
+    run
+    ∙ sets_after ps rest outs long (rw length-drop (omega arith))
     ∙ rw (drop-drop, end, coded_after-append, map-append)
 
-pub coding_step : {before s i w : ℕ} {bits old out next : List ℕ} → Coding before bits old out s i → i < length bits
+pub coding_step : {before s i w : ℕ} {bits old out three : List ℕ} → Coding before bits old out s i → i < length bits
+    → 3 * length bits ≤ length old
     → Entered (get_or bits i 0) s w
-    → next ≡ sets out (3 * i) (map bit (outputs uplink_words (bits_of 7 w)))
-    → Coding before bits old next (w / 2) (i + 1)
-coding_step {before} {s} {i} {w} {bits} {old} {out} p h entered stored =
+    → three ≡ map bit (outputs uplink_words (bits_of 7 w))
+    → Coding before bits old (stored_at i out three) (w / 2) (i + 1)
+coding_step {before} {s} {i} {w} {bits} {old} {out} p h room entered e =
     let b : Bool = is_one (get_or bits i 0) in
     let xs : List Bool = take i (map is_one bits) in
     let z : List Bool = bits_of 6 before in
@@ -107,26 +117,15 @@ coding_step {before} {s} {i} {w} {bits} {old} {out} p h entered stored =
     ap (λ (n : ℕ). outputs uplink_words (bits_of 7 n)) entered.number
     ∙ ap (λ (l : List Bool). outputs uplink_words l) (window_bits b s p.held.below)
     ∙ sym (outputs-held b uplink_words_short p.held) in
-    let long : length xs ≡ i = length-take-le i (map is_one bits) (rw length-map p.within) in
+    let long : length xs ≡ i = length-take-le i (map is_one bits) (rw length-map (omega arith)) in
     record {
-      within = omega arith;
-      room = p.room;
-      sized = rw (stored, length-sets) p.sized;
       written =
-          stored
-          ∙ ap (λ (l : List Bool). sets out (3 * i) (map bit l)) outs
-          ∙ ap (λ (l : List ℕ). sets l (3 * i) (map bit (outputs uplink_words (b ∷ reverse_aux xs z)))) p.written
-          ∙ written_step z xs b old i long (omega (arith, p.room))
+          ap (λ (l : List ℕ). stored_at i out l) (e ∙ ap (map bit) outs)
+          ∙ ap (λ (l : List ℕ). stored_at i l (map bit (outputs uplink_words (b ∷ reverse_aux xs z)))) p.written
+          ∙ written_step z xs b old i long (omega arith)
           ∙ ap (λ (l : List Bool). map bit (coded_after uplink_words z l) ++ drop (3 * (i + 1)) old) (sym (take_more bits i h));
       held = rw (take_more bits i h, reverse_aux_last, entered.number, window_half) (holds_shifted b p.held);
     }
-
--- after the last bit
-pub coding_end : {before s i : ℕ} {bits old out : List ℕ} → Coding before bits old out s i → length bits ≤ i → Ran before bits old out s
-coding_end {before} {s} {i} {bits} {old} {out} p h =
-    let e : i ≡ length bits = omega (arith, p.within) in
-    let all : take i (map is_one bits) ≡ map is_one bits = take_all i (map is_one bits) (rw length-map h) in
-    record { written = rw (← all, ← e) p.written; held = rw (← all) p.held }
 
 -- a string and the six zeros that follow it
 

@@ -1,61 +1,49 @@
--- The sums by which code makes the three output bits of a step from the newest seven bits as a number are what 001's words select: one test over the 128 numbers.
--- Assumes nothing.
-use mathlib.Core.Bool.{Bool, true, ◌&&◌, xor}
-use mathlib.Core.List.{List, [], ◌∷◌, map}
-use mathlib.Core.Path.{◌≡◌, refl, ap, ◌∙◌}
-use Prim.Native.Nat.{ℕ, suc, ◌+◌, ◌/◌, ◌%◌, ◌<◌}
-use native.Mathlib.Omega.{arith}
+-- The sums by which code makes the three output bits of a step from the newest seven bits as a number are what 001's
+-- words select: one test over the 128 numbers for each word. Assumes nothing.
+use mathlib.Core.Bool.{Bool, true, xor}
+use mathlib.Core.List.{[], ◌∷◌, map}
+use mathlib.Core.Path.{◌≡◌, refl}
+use Prim.Native.Nat.{ℕ, ◌%◌, ◌<◌}
 use borrow.Author.Tests.{eqb-true}
+use lib.Bits.{bit_and}
+use lib.Count.{ones as count_ones}
 use lib.Dec.{eqb}
-use lib.ListN.{set}
-use lib.Seq.{sets}
-use Rattle.lists.proofs.Every.{every, every-at, &&-left, &&-right}
+use Rattle.lists.proofs.Every.{every, every-at}
 use Rattle.bits.specs.Bits.{bit, bits_of}
 use Rattle.coder.specs.Coder.{tap, outputs, uplink_words}
 
--- the words 0155, 0123 and 0137 on seven bits, the newest highest
-abbrev pub first_sum : ℕ → ℕ
-first_sum w = (w / 64 + w / 32 + w / 8 + w / 4 + w) % 2
+-- the sum of the bits that a word selects from seven bits, the newest highest
+abbrev pub selected : ℕ → ℕ → ℕ
+selected word w = count_ones (bit_and w word) % 2
 
-abbrev pub second_sum : ℕ → ℕ
-second_sum w = (w / 64 + w / 16 + w / 2 + w) % 2
+-- whether it is what the word's bits tap from the seven
+right : ℕ → ℕ → Bool
+right word w = eqb (selected word w) (bit (tap (bits_of 7 word) (bits_of 7 w)))
 
-abbrev pub third_sum : ℕ → ℕ
-third_sum w = (w / 64 + w / 16 + w / 8 + w / 4 + w / 2 + w) % 2
+first_right : every 128 (right 0o155) ≡ true
+unfolding right tap xor bits_of count_ones
+first_right = refl
 
-first_right : ℕ → Bool
-first_right w = eqb (first_sum w) (bit (tap uplink_words.first (bits_of 7 w)))
+second_right : every 128 (right 0o123) ≡ true
+unfolding right tap xor bits_of count_ones
+second_right = refl
 
-second_right : ℕ → Bool
-second_right w = eqb (second_sum w) (bit (tap uplink_words.second (bits_of 7 w)))
+third_right : every 128 (right 0o137) ≡ true
+unfolding right tap xor bits_of count_ones
+third_right = refl
 
-third_right : ℕ → Bool
-third_right w = eqb (third_sum w) (bit (tap uplink_words.third (bits_of 7 w)))
-
-right : ℕ → Bool
-right w = first_right w && (second_right w && third_right w)
-
-every_right : every 128 right ≡ true
-unfolding right first_right second_right third_right tap xor uplink_words bits_of
-every_right = refl
+selected_taps : (word : ℕ) → every 128 (right word) ≡ true → (w : ℕ) → w < 128
+    → selected word w ≡ bit (tap (bits_of 7 word) (bits_of 7 w))
+unfolding right
+selected_taps word all w h = eqb-true _ _ (every-at 128 (right word) all w h)
 
 -- the three sums are the three output bits of a step
-pub sums_outputs : (w : ℕ) → w < 128 → first_sum w ∷ second_sum w ∷ third_sum w ∷ [] ≡ map bit (outputs uplink_words (bits_of 7 w))
-unfolding right first_right second_right third_right
+pub sums_outputs : (w : ℕ) → w < 128
+    → selected 0o155 w ∷ selected 0o123 w ∷ selected 0o137 w ∷ [] ≡ map bit (outputs uplink_words (bits_of 7 w))
+unfolding uplink_words
 sums_outputs w h =
-    let all = every-at 128 right every_right w h in
-    let others = &&-right (first_right w) (second_right w && third_right w) all in
-    let first = eqb-true (first_sum w) (bit (tap uplink_words.first (bits_of 7 w))) (&&-left (first_right w) (second_right w && third_right w) all) in
-    let second = eqb-true (second_sum w) (bit (tap uplink_words.second (bits_of 7 w))) (&&-left (second_right w) (third_right w) others) in
-    let third = eqb-true (third_sum w) (bit (tap uplink_words.third (bits_of 7 w))) (&&-right (second_right w) (third_right w) others) in
-    cc
-
--- one after another they are stored as the run of the output bits is
-pub stores_outputs : (out : List ℕ) (at w : ℕ) → w < 128
-    → set (set (set out at (first_sum w)) (at + 1) (second_sum w)) (at + 2) (third_sum w) ≡ sets out at (map bit (outputs uplink_words (bits_of 7 w)))
-stores_outputs out at w h =
-    let second : at + 1 ≡ suc at = omega arith in
-    let third : at + 2 ≡ suc (suc at) = omega arith in
-    let stored : set (set (set out at (first_sum w)) (at + 1) (second_sum w)) (at + 2) (third_sum w) ≡ sets out at (first_sum w ∷ second_sum w ∷ third_sum w ∷ []) =
-    rw (second, third) in
-    stored ∙ ap (λ (l : List ℕ). sets out at l) (sums_outputs w h)
+    cc (
+      selected_taps 0o155 first_right w h,
+      selected_taps 0o123 second_right w h,
+      selected_taps 0o137 third_right w h,
+    )

@@ -11,11 +11,6 @@ pub record Entered (v s r : ℕ) : Type 0 where
   pub number : r ≡ cond (is_one v) (s + 64) s
   pub below : r < 128
 
--- seven bits as a number, and room for three output bits
-pub record StepRoom (w : ℕ) (out : List ℕ) (at : ℕ) : Type 0 where
-  pub window : w < 128
-  pub room : at + 3 ≤ length out
-
 -- six bits as a number, and room for the output bits of a run
 pub record RunRoom (s : ℕ) (bits out : List ℕ) : Type 0 where
   pub state : s < 64

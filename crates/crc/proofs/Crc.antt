@@ -3,17 +3,15 @@
 use mathlib.Core.Bool.{Bool, true, false, cond, xor}
 use mathlib.Core.List.{List, [], ◌∷◌, ◌++◌, map}
 use mathlib.Core.Path.{◌≡◌, refl}
-use Prim.Native.Nat.{ℕ, ◌+◌, ◌*◌, ◌/◌, ◌%◌, ◌^◌, ◌<◌, ◌≤◌}
+use Prim.Native.Nat.{ℕ, ◌+◌, ◌*◌, ◌/◌, ◌%◌, ◌^◌, ◌<◌}
 use native.Mathlib.Nat.{mod-lt}
-use native.Mathlib.Numerals.{add-one}
 use native.Mathlib.Omega.{arith}
 use borrow.Author.Tests.{leb-true, leb-false}
 use lib.Bits.{bit_xor, xor_lt, xor_zero_r}
 use lib.Dec.{leb}
-use lib.ListN.{length, get_or, drop, drop_of_length-le}
 use lib.Pow.{pow_pos}
-use lib.Seq.{drop-cons}
-use Rattle.bits.specs.Bits.{is_one, bits_of, bits_of_bytes}
+use Rattle.std.specs.List.{fold}
+use Rattle.bits.specs.Bits.{bit, is_one, bits_of, bits_of_bytes}
 use Rattle.crc.specs.Crc.{crc_step, crc_from, crc8}
 
 module _ (width polynomial : ℕ) where
@@ -24,17 +22,12 @@ module _ (width polynomial : ℕ) where
   crc_from-append r [] cs = refl
   crc_from-append r (b ∷ bs) cs = crc_from-append (crc_step width polynomial r b) bs cs
 
-  -- what is left of a run of bytes at place i: a byte is taken, and the others are left
-  pub crc_from-drop_byte : (r : ℕ) (v : List ℕ) (i : ℕ) → i < length v
-      → crc_from width polynomial r (map is_one (drop i v))
-      ≡ crc_from width polynomial (crc_step width polynomial r (is_one (get_or v i 0))) (map is_one (drop (i + 1) v))
+  -- over the bits that bytes carry, the register goes from one byte to the next
+  pub crc_from-fold : (r : ℕ) (v : List ℕ)
+      → crc_from width polynomial r (map is_one v) ≡ fold (λ r b. crc_step width polynomial r (is_one b)) r v
   unfolding crc_from
-  crc_from-drop_byte r v i h = rw (add-one, drop-cons v i 0)
-
-  -- and at its end nothing is left
-  pub crc_from-drop_end : (r : ℕ) (v : List ℕ) (i : ℕ) → length v ≤ i → crc_from width polynomial r (map is_one (drop i v)) ≡ r
-  unfolding crc_from
-  crc_from-drop_end r v i h = rw (drop_of_length-le v h)
+  crc_from-fold r [] = refl
+  crc_from-fold r (x ∷ v) = crc_from-fold (crc_step width polynomial r (is_one x)) v
 
   module _ (fits : polynomial < 2 ^ width) where
     cond_below : (taken : Bool) {m : ℕ} → m < 2 ^ width → cond taken (bit_xor m polynomial) m < 2 ^ width
@@ -52,7 +45,7 @@ module _ (width polynomial : ℕ) where
 
 -- a bit added to the register's highest place leaves there whether it differs from the bit that leaves the register
 overlay_by_case : (r : ℕ) (leaves b : Bool) → r < 256 → leb 256 (r * 2) ≡ leaves
-    → (r + cond b 128 0) % 256 / 128 * 0x9B ≡ cond (xor leaves b) 0x9B 0
+    → (r + 128 * bit b) % 256 / 128 * 0x9B ≡ cond (xor leaves b) 0x9B 0
 unfolding xor
 overlay_by_case r true true h e = omega (arith, leb-true)
 overlay_by_case r true false h e = omega (arith, leb-true)
@@ -64,8 +57,8 @@ xor-cond m p true = refl
 xor-cond m p false = xor_zero_r m
 
 -- so the step of CRC-8 needs no test: a product lays the polynomial over
-pub crc8_step_overlay : (r : ℕ) (b : Bool) {h : ℕ} → r < 256 → h ≡ cond b 128 0
-    → bit_xor (r * 2 % 256) ((r + h) % 256 / 128 * 0x9B) ≡ crc_step 8 0x9B r b
+pub crc8_step_overlay : (r : ℕ) (b : Bool) {h : ℕ} → r < 256 → h ≡ bit b
+    → bit_xor (r * 2 % 256) ((r + 128 * h) % 256 / 128 * 0x9B) ≡ crc_step 8 0x9B r b
 unfolding crc_step
 crc8_step_overlay r b fits e =
     rw (e, overlay_by_case r (leb 256 (r * 2)) b fits refl) (xor-cond (r * 2 % 256) 0x9B (xor (leb 256 (r * 2)) b))

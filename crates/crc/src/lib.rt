@@ -2,17 +2,9 @@
 // no final xor.
 #![tactic(auto)]
 
-ghost use Rattle.std.specs.Prelude.{cond, map, ◌≡◌, ◌≤◌};
+ghost use Rattle.std.specs.Prelude.{map, ◌≡◌};
 ghost use Rattle.bits.specs.Bits.{is_one};
 ghost use Rattle.crc.specs.Crc.{crc_step, crc8};
-
-// A bit at the register's highest place: 128 or 0.
-fn highest(bit: bool) -> u32
-    ensures value { result ≡ cond bit 128 0 }
-    ensures bound { result ≤ 128 }
-{
-    if bit { 128 } else { 0 }
-}
 
 // The register after one more bit. A byte that is not 1 is the bit 0. The polynomial is laid over by a product, and not by a
 // branch, which random bits would make slow.
@@ -20,7 +12,7 @@ pub fn crc8_step(register: u8, bit: u8) -> u8
     ensures { result ≡ crc_step 8 0x9B register (is_one bit) }
 {
     let moved = (register as u32 * 2 % 256) as u8;
-    let met = (register as u32 + highest(bit == 1)) % 256;
+    let met = (register as u32 + 128 * u32::from(bit == 1)) % 256;
     let overlay = (met / 128 * 0x9B) as u8;
     moved ^ overlay
 }
@@ -29,11 +21,6 @@ pub fn crc8_step(register: u8, bit: u8) -> u8
 pub fn crc8_of(bits: &[u8]) -> u8
     ensures { result ≡ crc8 (map is_one bits.now) }
 {
-    let mut register: u8 = 0xFF;
-    let mut i: usize = 0;
-    while i < bits.len() {
-        register = crc8_step(register, bits[i]);
-        i += 1;
-    }
-    register
+    bits.iter()
+        .fold(0xFF, |register, bit| crc8_step(register, *bit))
 }

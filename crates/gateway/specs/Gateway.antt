@@ -2,18 +2,13 @@
 -- To be believed: Hands, built_fields, recovered_fields, written_fields, read_fields, quantised_fields, version; NoSecond is
 -- what follows. Assumes nothing.
 use Rattle.std.specs.Prelude.{List, ◌≡◌, ℕ, Float}
-use Rattle.uplink.specs.declared.Built.{Built}
-use Rattle.uplink.specs.declared.Recovered.{Recovered}
-use Rattle.uplink.specs.Answers.{built_refusal, built_size, recovered_refusal, recovered_length, recovered_mode, recovered_cost}
+use Rattle.uplink.specs.Answers.{Built, Recovery, built_refusal, built_size, recovered_refusal, recovered_length, recovered_mode, recovered_cost}
 use Rattle.uplink.specs.Build.{Builds}
 use Rattle.uplink.specs.Recover.{Recovers}
-use Rattle.capture.specs.declared.Written.{Written}
-use Rattle.capture.specs.declared.Read.{Read}
-use Rattle.capture.specs.Answers.{written_refusal, written_size, read_refusal_of, read_length}
+use Rattle.capture.specs.Answers.{Written, Read, written_refusal, written_size, read_refusal_of, read_length}
 use Rattle.capture.specs.Writing.{Writes}
 use Rattle.capture.specs.Reading.{Reads}
-use Rattle.quantise.specs.declared.Quantised.{Quantised}
-use Rattle.quantise.specs.Answers.{quantised_refusal, quantised_finding, quantised_peak}
+use Rattle.quantise.specs.Answers.{Quantised, quantised_refusal, quantised_finding, quantised_peak}
 use Rattle.quantise.specs.Quantise.{Quantises}
 use Rattle.gateway.specs.declared.GloamWritten.{GloamWritten}
 use Rattle.gateway.specs.declared.GloamRead.{GloamRead}
@@ -28,7 +23,7 @@ version = 200
 abbrev pub built_fields : Built → GloamWritten
 built_fields answer = record { refusal = built_refusal answer; size = built_size answer }
 
-abbrev pub recovered_fields : Recovered → GloamRecovered
+abbrev pub recovered_fields : Recovery → GloamRecovered
 recovered_fields answer =
     record {
       refusal = recovered_refusal answer;

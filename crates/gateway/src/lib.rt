@@ -10,9 +10,9 @@ ghost use Rattle.quantise.specs.Quantise.{Quantises};
 ghost use Rattle.gateway.specs.Gateway.{Hands, built_fields, recovered_fields, written_fields, read_fields, quantised_fields, version};
 ghost use Rattle.std.specs.Prelude.{◌≡◌};
 
-use capture::{Read, Written};
-use quantise::{Finding, Quantised};
-use uplink::{Built, Recovered};
+use quantise::Finding;
+use refusals::Refusal;
+use uplink::Recovered;
 
 // gloam_written: 0 and the bytes written, or the refusal and 0.
 #[repr(C)]
@@ -22,12 +22,40 @@ pub struct GloamWritten {
     pub size: u32,
 }
 
+impl From<Result<u32, Refusal>> for GloamWritten {
+    ghost from_gives = { λ answer fields. fields ≡ written_fields answer };
+
+    fn from(answer: Result<u32, Refusal>) -> GloamWritten {
+        match answer {
+            Ok(size) => GloamWritten { refusal: 0, size },
+            Err(refusal) => GloamWritten {
+                refusal: refusal.into(),
+                size: 0,
+            },
+        }
+    }
+}
+
 // gloam_read: 0 and the length of the message, or the refusal and 0.
 #[repr(C)]
 #[derive(Clone, Copy)]
 pub struct GloamRead {
     pub refusal: u32,
     pub length: u32,
+}
+
+impl From<Result<u32, Refusal>> for GloamRead {
+    ghost from_gives = { λ answer fields. fields ≡ read_fields answer };
+
+    fn from(answer: Result<u32, Refusal>) -> GloamRead {
+        match answer {
+            Ok(length) => GloamRead { refusal: 0, length },
+            Err(refusal) => GloamRead {
+                refusal: refusal.into(),
+                length: 0,
+            },
+        }
+    }
 }
 
 // gloam_recovered: 0, the length of the message, its mode and the cost, or the refusal and three times 0.
@@ -40,6 +68,27 @@ pub struct GloamRecovered {
     pub cost: u32,
 }
 
+impl From<Result<Recovered, Refusal>> for GloamRecovered {
+    ghost from_gives = { λ answer fields. fields ≡ recovered_fields answer };
+
+    fn from(answer: Result<Recovered, Refusal>) -> GloamRecovered {
+        match answer {
+            Ok(Recovered { length, mode, cost }) => GloamRecovered {
+                refusal: 0,
+                length,
+                mode,
+                cost,
+            },
+            Err(refusal) => GloamRecovered {
+                refusal: refusal.into(),
+                length: 0,
+                mode: 0,
+                cost: 0,
+            },
+        }
+    }
+}
+
 // gloam_quantised: 0, the finding (1 heard, 2 silent, 3 faulty) and the peak of one that is heard, or the refusal; what
 // does not hold is 0.
 #[repr(C)]
@@ -48,6 +97,35 @@ pub struct GloamQuantised {
     pub refusal: u32,
     pub finding: u32,
     pub peak: f32,
+}
+
+impl From<Result<Finding, Refusal>> for GloamQuantised {
+    ghost from_gives = { λ answer fields. fields ≡ quantised_fields answer };
+
+    fn from(answer: Result<Finding, Refusal>) -> GloamQuantised {
+        match answer {
+            Ok(Finding::Heard(peak)) => GloamQuantised {
+                refusal: 0,
+                finding: 1,
+                peak,
+            },
+            Ok(Finding::Silent) => GloamQuantised {
+                refusal: 0,
+                finding: 2,
+                peak: 0.0,
+            },
+            Ok(Finding::Faulty) => GloamQuantised {
+                refusal: 0,
+                finding: 3,
+                peak: 0.0,
+            },
+            Err(refusal) => GloamQuantised {
+                refusal: refusal.into(),
+                finding: 0,
+                peak: 0.0,
+            },
+        }
+    }
 }
 
 // The version of this interface.
@@ -68,11 +146,7 @@ pub extern "C" fn gloam_uplink_build(
 ) -> GloamWritten
     ensures { Hands (Builds length mode message.now frame.old frame.new) built_fields result }
 {
-    let answer = uplink::build(length, mode, message, frame);
-    match answer {
-        Built::Done(size) => GloamWritten { refusal: 0, size },
-        Built::Refused(refusal) => GloamWritten { refusal, size: 0 },
-    }
+    uplink::build(length, mode, message, frame).into()
 }
 
 // The message behind the nearest string to the start of `message`.
@@ -85,25 +159,7 @@ pub extern "C" fn gloam_uplink_recover(
 ) -> GloamRecovered
     ensures { Hands (Recovers length marks.now values.now message.old message.new) recovered_fields result }
 {
-    let answer = uplink::recover(length, marks, values, message);
-    match answer {
-        Recovered::Done {
-            length: told,
-            mode,
-            cost,
-        } => GloamRecovered {
-            refusal: 0,
-            length: told,
-            mode,
-            cost,
-        },
-        Recovered::Refused(refusal) => GloamRecovered {
-            refusal,
-            length: 0,
-            mode: 0,
-            cost: 0,
-        },
-    }
+    uplink::recover(length, marks, values, message).into()
 }
 
 // The capture of a length, marks and values to the start of `capture`.
@@ -116,11 +172,7 @@ pub extern "C" fn gloam_capture_write(
 ) -> GloamWritten
     ensures { Hands (Writes length marks.now values.now capture.old capture.new) written_fields result }
 {
-    let answer = capture::write(length, marks, values, capture);
-    match answer {
-        Written::Done(size) => GloamWritten { refusal: 0, size },
-        Written::Refused(refusal) => GloamWritten { refusal, size: 0 },
-    }
+    capture::write(length, marks, values, capture).into()
 }
 
 // The marks and the values in a capture to the starts of the two buffers.
@@ -132,11 +184,7 @@ pub extern "C" fn gloam_capture_read(
 ) -> GloamRead
     ensures { Hands (Reads capture.now marks.old values.old marks.new values.new) read_fields result }
 {
-    let answer = capture::read_back(capture, marks, values);
-    match answer {
-        Read::Done(length) => GloamRead { refusal: 0, length },
-        Read::Refused(refusal) => GloamRead { refusal, length: 0 },
-    }
+    capture::read_back(capture, marks, values).into()
 }
 
 // The values of the numbers of one burst to the start of `values`, and what was found.
@@ -144,29 +192,5 @@ pub extern "C" fn gloam_capture_read(
 pub extern "C" fn gloam_burst_quantise(numbers: &[f32], values: &mut [u8]) -> GloamQuantised
     ensures { Hands (Quantises numbers.now values.old values.new) quantised_fields result }
 {
-    let answer = quantise::quantise(numbers, values);
-    match answer {
-        Quantised::Done(found) => match found {
-            Finding::Heard(peak) => GloamQuantised {
-                refusal: 0,
-                finding: 1,
-                peak,
-            },
-            Finding::Silent => GloamQuantised {
-                refusal: 0,
-                finding: 2,
-                peak: 0.0,
-            },
-            Finding::Faulty => GloamQuantised {
-                refusal: 0,
-                finding: 3,
-                peak: 0.0,
-            },
-        },
-        Quantised::Refused(refusal) => GloamQuantised {
-            refusal,
-            finding: 0,
-            peak: 0.0,
-        },
-    }
+    quantise::quantise(numbers, values).into()
 }

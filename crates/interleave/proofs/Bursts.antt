@@ -1,14 +1,16 @@
 -- Lists given place by place: what stands at each place of the values received, the pilots, and that only one frame carries given coded bits.
 -- Assumes nothing.
-use mathlib.Core.Bool.{Bool, true, false, cond}
+use mathlib.Core.Bool.{cond}
 use mathlib.Core.List.{List}
-use mathlib.Core.Path.{◌≡◌, refl, sym, ◌∙◌}
+use mathlib.Core.Path.{◌≡◌, sym, ◌∙◌}
+use mathlib.Core.Logic.{◌⊎◌, inl, inr}
 use Prim.Native.Nat.{ℕ, ◌+◌, ◌-◌, ◌*◌, ◌/◌, ◌%◌, ◌≤◌, ◌<◌}
 use native.Mathlib.Omega.{arith}
-use lib.Dec.{ltb, eqb}
+use lib.Dec.{eqb}
 use lib.ListN.{length, get_or}
 use lib.Seq.{ext_get_or}
-use borrow.Author.Tests.{ltb-true, ltb-false, lt-ltb, le-ltb}
+use borrow.Author.Tests.{lt-ltb, le-ltb}
+use Rattle.std.proofs.lemmas.Bool.{cases_lt}
 use Rattle.lists.proofs.Lists.{length-firsts, get_or-firsts}
 use Rattle.interleave.specs.Interleave.{coded_bits, sub_packets, Placed, core_pilot, extension_pilot, pilot, Length, DataSymbol}
 use Rattle.interleave.specs.Bursts.{Bursts, value_of, heard, received}
@@ -60,12 +62,12 @@ bursts_unique {l} {coded} {frame} {frame'} long p q = ext_get_or 0 frame frame' 
         rw split (p.pilots (i / 36) (i % 36 - 12) s k ∙ sym (q.pilots (i / 36) (i % 36 - 12) s k))
 
     same : (i : ℕ) → i < length frame → get_or frame i 0 ≡ get_or frame' i 0
-    same i h = go (ltb (i % 36) 12) refl (ltb (i % 36) 24) refl
+    same i h = go (cases_lt (i % 36) 12) (cases_lt (i % 36) 24)
       where
         inside : i < 36 * sub_packets l
         inside = omega (arith, p.sized)
 
-        go : (a : Bool) → ltb (i % 36) 12 ≡ a → (b : Bool) → ltb (i % 36) 24 ≡ b → get_or frame i 0 ≡ get_or frame' i 0
-        go true s b t = carried i inside (record { inside = omega arith; outside = λ h'. omega (arith, ltb-true) })
-        go false s true t = piloted i inside (ltb-false (i % 36) 12 s) (ltb-true (i % 36) 24 t)
-        go false s false t = carried i inside (record { inside = omega arith; outside = λ h'. ltb-false (i % 36) 24 t })
+        go : (i % 36 < 12) ⊎ (12 ≤ i % 36) → (i % 36 < 24) ⊎ (24 ≤ i % 36) → get_or frame i 0 ≡ get_or frame' i 0
+        go (inl low) b = carried i inside (record { inside = omega arith; outside = λ h'. omega arith })
+        go (inr a) (inl b) = piloted i inside a b
+        go (inr a) (inr high) = carried i inside (record { inside = omega arith; outside = λ h'. high })

@@ -6,9 +6,10 @@ use mathlib.Core.Path.{◌≡◌, refl}
 use Prim.Native.Nat.{ℕ, ◌+◌, ◌-◌, ◌*◌, ◌/◌, ◌%◌, ◌≤◌, ◌<◌}
 use mathlib.Core.Logic.{◌⊎◌, inl, inr, ⊎_elim}
 use native.Mathlib.Omega.{arith}
-use lib.Dec.{eqb, ltb}
+use lib.Dec.{eqb}
 use lib.ListN.{get_or}
-use borrow.Author.Tests.{ltb-true, ltb-false, eqb-true, eqb-false}
+use borrow.Author.Tests.{eqb-true, eqb-false}
+use Rattle.std.proofs.lemmas.Bool.{cases_lt}
 use Rattle.interleave.specs.Interleave.{even_row, odd_row, symbol, DataSymbol}
 use Rattle.lists.proofs.Every.{every, every-at, &&-left, &&-right}
 
@@ -73,10 +74,10 @@ data_carries (high k a b c) = record { inside = omega arith; outside = λ h. ome
 
 -- .. and every data symbol carries one
 pub carries_data : (s : ℕ) {m : ℕ} → DataSymbol m → (o : ℕ) × Carries s o m
-carries_data s {m} d = go (ltb m 12) refl
+carries_data s {m} d = go (cases_lt m 12)
   where
-    go : (b : Bool) → ltb m 12 ≡ b → (o : ℕ) × Carries s o m
-    go true t = (2 * (11 - m) + s % 2, low (11 - m) (omega arith) refl (omega (arith, ltb-true)))
-    go false t =
-        let above : 24 ≤ m = d.outside (ltb-false m 12 t) in
+    go : (m < 12) ⊎ (12 ≤ m) → (o : ℕ) × Carries s o m
+    go (inl below) = (2 * (11 - m) + s % 2, low (11 - m) (omega arith) refl (omega arith))
+    go (inr t) =
+        let above : 24 ≤ m = d.outside t in
         (2 * (m - 24) + (1 - s % 2), high (m - 24) (omega arith) refl (omega arith))

@@ -3,12 +3,14 @@
 -- sub-packet has just one index. Assumes nothing.
 use mathlib.Core.Bool.{Bool, true, false, cond}
 use mathlib.Core.Path.{◌≡◌, refl, sym, ◌∙◌}
+use mathlib.Core.Logic.{◌⊎◌, inl, inr}
 use Prim.Native.Nat.{ℕ, ◌+◌, ◌-◌, ◌*◌, ◌/◌, ◌%◌, ◌≤◌, ◌<◌}
 use native.Mathlib.Nat.{div-add-mod', mod-lt}
 use native.Mathlib.Omega.{arith}
 use lib.Arith.{digits_div, digits_mod}
 use lib.Dec.{ltb}
 use borrow.Author.Tests.{ltb-true, ltb-false, lt-ltb, le-ltb}
+use Rattle.std.proofs.lemmas.Bool.{cases_lt}
 use Rattle.interleave.specs.Interleave.{group_length, group, group_index, sub_packet}
 
 -- index i stands at r in group g
@@ -60,15 +62,17 @@ sub_packet_lies {i = i} (extended {r = r} at h p q) =
 
 -- every index lies in its sub-packet
 pub lies_sub_packet : (e i : ℕ) → (o : ℕ) × Lies e i (sub_packet e i) o
-lies_sub_packet e i = go (ltb i 288) refl (ltb (group_index e i) 12) refl
+lies_sub_packet e i = go (cases_lt i 288) (cases_lt (group_index e i) 12)
   where
     lies : {s o : ℕ} → Lies e i s o → (o : ℕ) × Lies e i (sub_packet e i) o
     lies {o = o} p = (o, rw (sub_packet_lies p) p)
 
-    go : (b : Bool) → ltb i 288 ≡ b → (c : Bool) → ltb (group_index e i) 12 ≡ c → (o : ℕ) × Lies e i (sub_packet e i) o
-    go true p c q = lies (first (ltb-true i 288 p) refl refl)
-    go false p true q = lies (core (grouped e i (ltb-false i 288 p)) (ltb-true _ 12 q) refl refl)
-    go false p false q = lies (extended (grouped e i (ltb-false i 288 p)) (ltb-false _ 12 q) refl refl)
+    go : (i < 288) ⊎ (288 ≤ i)
+        → (group_index e i < 12) ⊎ (12 ≤ group_index e i)
+        → (o : ℕ) × Lies e i (sub_packet e i) o
+    go (inl p) q = lies (first p refl refl)
+    go (inr p) (inl q) = lies (core (grouped e i p) q refl refl)
+    go (inr p) (inr q) = lies (extended (grouped e i p) q refl refl)
 
 -- the sub-packet is one of the 24 of the core or the e of the extension
 pub lies_below : {e i s o : ℕ} → Lies e i s o → s < 24 + e

@@ -3,12 +3,13 @@
 use mathlib.Core.Bool.{Bool, true, false, cond}
 use mathlib.Core.Path.{◌≡◌, refl}
 use Prim.Native.Nat.{ℕ, zero, suc, ◌+◌, ◌/◌, ◌≤◌, ◌<◌}
-use mathlib.Core.Logic.{⊎_elim}
+use mathlib.Core.Logic.{◌⊎◌, inl, inr, ⊎_elim}
 use native.Mathlib.Nat.{not-suc-le-zero, eq-or-lt_of_le, lt_irrefl, lt_trans}
 use native.Mathlib.Omega.{arith}
 use lib.Arith.{digits_lt, lt_of_le-ne}
-use lib.Dec.{eqb, ltb}
-use borrow.Author.Tests.{ltb-true, ltb-false, eqb-true, eqb-false}
+use lib.Dec.{eqb}
+use borrow.Author.Tests.{eqb-true, eqb-false}
+use Rattle.std.proofs.lemmas.Bool.{cases_lt}
 use Rattle.interleave.specs.Interleave.{group, group_index, sub_packet, count_in, order}
 use Rattle.interleave.proofs.Lies.{Grouped, Lies, first, core, extended, grouped, lies_sub_packet, sub_packet_lies, lies_below, index_of, index_of_lies, lies_index_of}
 
@@ -34,13 +35,13 @@ module _ (e s : ℕ) (inside : s < 24 + e) where
 
   -- and a higher index has a later place
   index_of_reflects : (o p : ℕ) → index_of e s o < index_of e s p → o < p
-  index_of_reflects o p h = go (ltb o p) refl
+  index_of_reflects o p h = go (cases_lt o p)
     where
-      go : (b : Bool) → ltb o p ≡ b → o < p
-      go true q = ltb-true o p q
-      go false q =
+      go : (o < p) ⊎ (p ≤ o) → o < p
+      go (inl q) = q
+      go (inr q) =
           ⊎_elim (λ t. absurd (lt_irrefl _ (rw t at h))) (λ t. absurd (lt_irrefl _ (lt_trans h (index_of_rises p o t))))
-          (eq-or-lt_of_le (ltb-false o p q))
+          (eq-or-lt_of_le q)
 
   -- k has seen the places below o and no other
   abbrev Seen : ℕ → ℕ → Type 0

@@ -2,8 +2,12 @@
 // the way back. For reading and for tests: the frames as a whole are filled and gathered by the crate placing.
 #![tactic(auto)]
 
+mod frames;
+
 ghost use Rattle.std.specs.Prelude.{◌≡◌, ◌<◌};
 ghost use Rattle.interleave.specs.Interleave.{coded_bits, shifted_index, symbol, Placed, pilot, DataSymbol, OneOf, CodedBit, BurstSymbol, BurstPlace, Shifted, Ordered, Carried};
+
+pub use frames::{Coded, Heard};
 
 // A place in a frame: a sub-packet, and a symbol of the burst that carries it.
 #[derive(Clone, Copy)]
@@ -13,9 +17,9 @@ pub struct Position {
 }
 
 // The pilot sequences of the core and of the extension.
-const CORE_PILOT: [u8; 12] = [0, 1, 1, 1, 0, 1, 0, 0, 0, 0, 1, 0];
+pub const CORE_PILOT: [u8; 12] = [0, 1, 1, 1, 0, 1, 0, 0, 0, 0, 1, 0];
 
-const EXTENSION_PILOT: [u8; 12] = [0, 1, 0, 0, 1, 1, 1, 1, 1, 0, 1, 0];
+pub const EXTENSION_PILOT: [u8; 12] = [0, 1, 0, 0, 1, 1, 1, 1, 1, 0, 1, 0];
 
 // The index of coded bit j, of c, in the shifted stream.
 pub fn shifted_index(c: usize, j: usize) -> usize

@@ -1,22 +1,13 @@
--- Bytes put one after another: nothing, one byte more, and one run behind another. Assumes nothing.
-use mathlib.Core.List.{List, [], ◌∷◌, ◌++◌}
-use mathlib.Core.Path.{◌≡◌, refl, ap, ◌∙◌}
+-- The parts of a line, one behind the other, and how long they are. Assumes nothing.
+use mathlib.Core.List.{List, [], ◌∷◌, ◌++◌, append-nil, append_assoc}
+use mathlib.Core.Path.{◌≡◌, refl, sym, ap, ◌∙◌}
 use Prim.Native.Nat.{ℕ, ◌+◌, ◌*◌, ◌/◌, ◌%◌, ◌<◌, ◌≤◌}
 use native.Mathlib.Numerals.{add-one}
 use native.Mathlib.Omega.{arith}
 use lib.ListN.{length, get_or, take, length-append}
-use lib.Seq.{take-suc, take_all}
-use Rattle.line.specs.Line.{decimal, hex, hex_digit, ok_line, refused_line}
-use Rattle.buffers.specs.Buffers.{Appends}
-use Rattle.buffers.proofs.Appending.{appends_none, appends_then, take_appends}
-use Rattle.line.specs.Parts.{Lines}
-use Rattle.line.proofs.Decimal.{length-decimal, length-decimal_byte}
-
--- two digits, one behind the other
-pub hex_pair : {old mid new : List ℕ} {at middle next high low : ℕ} (x : ℕ) → high ≡ hex_digit (x / 16) → low ≡ hex_digit (x % 16)
-    → Appends old at (high ∷ []) mid middle → Appends mid middle (low ∷ []) new next
-    → Appends old at (hex_digit (x / 16) ∷ hex_digit (x % 16) ∷ []) new next
-hex_pair x h l p q = rw (← h, ← l) (appends_then p q)
+use lib.Seq.{take-suc, take_all, length-take-le}
+use Rattle.line.specs.Line.{hex, hex_digit, ok_line, refused_line}
+use Rattle.line.specs.Parts.{ok_head, refused_head}
 
 -- hex digits of one byte more
 hex_snoc : (xs : List ℕ) (x : ℕ) → hex (xs ++ (x ∷ [])) ≡ hex xs ++ (hex_digit (x / 16) ∷ hex_digit (x % 16) ∷ [])
@@ -29,60 +20,35 @@ unfolding hex
 length-hex [] = refl
 length-hex (x ∷ xs) = omega (arith, length-hex xs)
 
--- the hex digits of the first bytes of a run are put
-pub record Hexing (src old : List ℕ) (at i : ℕ) (out : List ℕ) (next : ℕ) : Type 0 where
-  pub within : i ≤ length src
-  pub next_is : next ≡ at + 2 * i
-  pub put : Appends old at (hex (take i src)) out next
-
-pub hexing_start : (src old : List ℕ) (at : ℕ) → Hexing src old at 0 old at
-unfolding hex
-hexing_start src old at = record { within = omega arith; next_is = omega arith; put = appends_none old at }
-
-pub hexing_step : {src old out out' : List ℕ} {at i next next' : ℕ} → Hexing src old at i out next → i < length src
-    → Appends out next (hex_digit (get_or src i 0 / 16) ∷ hex_digit (get_or src i 0 % 16) ∷ []) out' next' → Hexing src old at (i + 1) out' next'
-hexing_step {src} {old} {out} {out'} {at} {i} {next} {next'} p h q =
+-- the hex digits of the bytes before i stand behind what was there
+pub hexes_step : (src before : List ℕ) (i : ℕ) {now : List ℕ} → i < length src → now ≡ before ++ hex (take i src)
+    → now ++ (hex_digit (get_or src i 0 / 16) ∷ []) ++ (hex_digit (get_or src i 0 % 16) ∷ []) ≡ before ++ hex (take (i + 1) src)
+hexes_step src before i h e =
     let longer : hex (take (i + 1) src) ≡ hex (take i src) ++ (hex_digit (get_or src i 0 / 16) ∷ hex_digit (get_or src i 0 % 16) ∷ []) =
     ap (λ (n : ℕ). hex (take n src)) (add-one i) ∙ ap hex (take-suc src i 0 h) ∙ hex_snoc (take i src) (get_or src i 0) in
-    record {
-      within = omega arith;
-      next_is = omega (arith, q.ends, p.next_is);
-      put = rw longer (appends_then p.put q);
-    }
+    rw (e, longer) (simp append_assoc)
 
-pub hexing_end : {src old out : List ℕ} {at i next : ℕ} → Hexing src old at i out next → length src ≤ i → Appends old at (hex src) out next
-hexing_end {src} {i = i} p h = rw (take_all i src h) at p.put
+-- and there is room for two digits more
+pub hexes_room : (src before : List ℕ) (i : ℕ) {now : List ℕ} → i < length src → now ≡ before ++ hex (take i src) → length before + 2 * length src ≤ 544
+    → length now + 2 ≤ 544
+hexes_room src before i h e room =
+    omega (arith, ap length e, length-append before (hex (take i src)), length-hex (take i src), length-take-le i src (omega arith))
 
--- head, length, mode, cost and message, one behind the other from the start on, are the line of a recovered message
-pub ok_lines : (l mode total : ℕ) (message : List ℕ) {old a b c d new : List ℕ} {i j k m r : ℕ}
-    → 544 ≤ length old → l ≤ 255 → mode < 4294967296 → total < 4294967296 → length message ≤ 255
-    → Appends old 0 (79 ∷ 75 ∷ 32 ∷ []) a i → Appends a i (decimal l) b j → Appends b j (32 ∷ decimal mode) c k
-    → Appends c k (32 ∷ decimal total) d m → Appends d m (32 ∷ (hex message ++ (10 ∷ []))) new r → Lines (ok_line l mode total message) new r
+pub hexes_end : (src before : List ℕ) (i : ℕ) {now : List ℕ} → length src ≤ i → now ≡ before ++ hex (take i src) → now ≡ before ++ hex src
+hexes_end src before i h e = e ∙ ap (λ (x : List ℕ). before ++ hex x) (take_all i src h)
+
+pub hexes_start : (src before : List ℕ) → before ≡ before ++ hex (take 0 src)
+unfolding hex
+hexes_start src before = sym (append-nil before)
+
+pub hexes_length : (src before : List ℕ) {now : List ℕ} → now ≡ before ++ hex src → length now ≡ length before + 2 * length src
+hexes_length src before e = omega (arith, ap length e, length-append before (hex src), length-hex src)
+
+-- with its line feed each is the line
+pub ok_head_line : (l mode total : ℕ) (message : List ℕ) → ok_head l mode total message ++ (10 ∷ []) ≡ ok_line l mode total message
 unfolding ok_line
-ok_lines l mode total message {old} {r = r} room hl hm ht hs p q s t u =
-    let all : Appends old 0 (ok_line l mode total message) _ r = appends_then p (appends_then q (appends_then s (appends_then t u))) in
-    let least : r ≤ 544 =
-    omega (
-      arith,
-      p.ends,
-      q.ends,
-      s.ends,
-      t.ends,
-      u.ends,
-      length-decimal_byte l hl,
-      length-decimal mode hm,
-      length-decimal total ht,
-      length-append (hex message) (10 ∷ []),
-      length-hex message,
-    ) in
-    record { line = take_appends all (omega (arith, all.ends)); within = least }
+ok_head_line l mode total message = simp append_assoc
 
--- head, number and line feed are the line of a refusal
-pub refused_lines : (number : ℕ) {old a b new : List ℕ} {i j r : ℕ} → 544 ≤ length old → number < 4294967296
-    → Appends old 0 (82 ∷ 69 ∷ 70 ∷ 85 ∷ 83 ∷ 69 ∷ 68 ∷ 32 ∷ []) a i → Appends a i (decimal number) b j → Appends b j (10 ∷ []) new r
-    → Lines (refused_line number) new r
+pub refused_head_line : (n : ℕ) → refused_head n ++ (10 ∷ []) ≡ refused_line n
 unfolding refused_line
-refused_lines number {old} {r = r} room h p q s =
-    let all : Appends old 0 (refused_line number) _ r = appends_then p (appends_then q s) in
-    let least : r ≤ 544 = omega (arith, p.ends, q.ends, s.ends, length-decimal number h) in
-    record { line = take_appends all (omega (arith, all.ends)); within = least }
+refused_head_line n = simp append_assoc

@@ -1,31 +1,26 @@
 -- What the inner functions of the line say to each other. Nothing here has to be believed.
 -- Assumes nothing.
-use Rattle.std.specs.Prelude.{cond, List, ◌≡◌, ℕ, ◌≤◌, eqb, length, take}
-use Rattle.uplink.specs.Recover.{nearest_cost, opened, recover_refusal}
+use Rattle.std.specs.Prelude.{List, [], ◌∷◌, ◌++◌, ◌≡◌, ℕ, ◌≤◌, take}
+use Rattle.uplink.specs.declared.Recovered.{Recovered}
+use Rattle.uplink.specs.Recover.{nearest_cost, opened}
 use Rattle.payload.specs.Open.{message_of, mode_of}
-use Rattle.line.specs.Line.{ok_line, refused_line}
+use Rattle.capture.specs.Reading.{told_in, marks_in, values_in}
+use Rattle.line.specs.Line.{decimal, hex, report_refusal}
 
--- a line stands at the start of a buffer; r is its length
-pub record Lines (bytes new : List ℕ) (r : ℕ) : Type 0 where
-  pub line : take r new ≡ bytes
-  pub within : r ≤ 544
+-- the line of a recovered message, but for its line feed
+abbrev pub ok_head : ℕ → ℕ → ℕ → List ℕ → List ℕ
+ok_head l mode total message =
+    (79 ∷ 75 ∷ []) ++ ((32 ∷ decimal l) ++ ((32 ∷ decimal mode) ++ ((32 ∷ decimal total) ++ ((32 ∷ []) ++ hex message))))
 
--- a length and a message that a line has room for
-pub record Roomy (l : ℕ) (message out : List ℕ) : Type 0 where
-  pub told : l ≤ 255
-  pub least : length message ≤ 255
-  pub room : 544 ≤ length out
+-- the line of a refusal, but for its line feed
+abbrev pub refused_head : ℕ → List ℕ
+refused_head n = (82 ∷ 69 ∷ 70 ∷ 85 ∷ 83 ∷ 69 ∷ 68 ∷ []) ++ (32 ∷ decimal n)
 
--- buffers as reading leaves them, and room for a line
-pub record Read (l : ℕ) (marks values out : List ℕ) : Type 0 where
-  pub told : l ≤ 255
-  pub marked : length marks ≡ 259
-  pub valued : length values ≡ 6216
-  pub room : 544 ≤ length out
-
--- the line of marks and values, once they are read
-unfoldable pub recovered_line : ℕ → List ℕ → List ℕ → List ℕ
-recovered_line l marks values =
-    cond (eqb (recover_refusal l marks values 255) 0)
-    (ok_line l (mode_of l (opened l marks values)) (nearest_cost l marks values) (message_of l (opened l marks values)))
-    (refused_line (recover_refusal l marks values 255))
+-- nothing of a capture is refused, and these are the numbers and the message of its line
+pub record Recounted (c message : List ℕ) (r : Recovered) : Type 0 where
+  pub none : report_refusal c ≡ 0
+  pub told : r.length ≡ told_in c
+  pub mode : r.mode ≡ mode_of (told_in c) (opened (told_in c) (marks_in (told_in c) c) (values_in (told_in c) c))
+  pub total : r.cost ≡ nearest_cost (told_in c) (marks_in (told_in c) c) (values_in (told_in c) c)
+  pub sent : take r.length message ≡ message_of (told_in c) (opened (told_in c) (marks_in (told_in c) c) (values_in (told_in c) c))
+  pub small : r.length ≤ 255

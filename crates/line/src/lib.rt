@@ -1,32 +1,49 @@
 // The report's line, document 01: one capture in, one line out.
 #![tactic(auto)]
 
-ghost use Rattle.std.specs.Prelude.{[], ◌∷◌, ◌++◌, ◌≡◌, ◌+◌, ◌*◌, ◌/◌, ◌%◌, ◌≤◌, ◌<◌, length, take};
-ghost use Rattle.buffers.specs.Buffers.{Appends};
-ghost use Rattle.line.specs.Line.{decimal, hex_digit, hex, ok_line, refused_line};
+ghost use Rattle.std.specs.Prelude.{[], ◌∷◌, ◌++◌, ◌≡◌, ◌+◌, ◌*◌, ◌/◌, ◌%◌, ◌≤◌, ◌<◌, length, MatchResult};
+ghost use Rattle.refusals.specs.Refusals.{number};
+ghost use Rattle.line.specs.Line.{decimal, hex_digit, hex, report_refusal, report_line};
 ghost use Rattle.line.specs.Report.{Reports};
-ghost use Rattle.line.specs.Parts.{Lines, Roomy, Read as Parts-as-Read, recovered_line};
+ghost use Rattle.line.specs.Parts.{ok_head, refused_head, Recounted};
 
-use capture::Read;
+use arrayvec::ArrayVec;
+use refusals::Refusal;
 use uplink::Recovered;
 
-// Puts one byte at `at`, and answers the index behind it.
-fn put_byte(x: u8, out: &mut [u8], at: usize) -> usize
-    requires { at < length out.old }
-    ensures { Appends out.old at (x ∷ []) out.new result }
+// A line as it grows; the longest has 544 bytes.
+type Line = ArrayVec<u8, 544>;
+
+// Puts bytes at the end of a line that has room for them.
+fn put(bytes: &[u8], line: &mut Line)
+    requires { length line.old.items + length bytes.now ≤ 544 }
+    ensures items { line.new.items ≡ line.old.items ++ bytes.now }
+    ensures len { length line.new.items ≡ length line.old.items + length bytes.now }
 {
-    out[at] = x;
-    at + 1
+    line.try_extend_from_slice(bytes).unwrap();
 }
 
-// Puts a number in decimal, ten digits at most, from `at` on, and answers the index behind it.
-fn put_decimal(n: u32, out: &mut [u8], at: usize) -> usize
-    requires { at + 10 ≤ length out.old }
-    ensures { Appends out.old at (decimal n) out.new result }
+// Puts a number in decimal, ten digits at most.
+fn put_decimal(n: u32, line: &mut Line)
+    requires { length line.old.items + 10 ≤ 544 }
+    ensures items { line.new.items ≡ line.old.items ++ decimal n }
+    ensures len { length line.new.items ≤ length line.old.items + 10 }
+    ensures small { n ≤ 255 → length line.new.items ≤ length line.old.items + 3 }
 {
     let mut digits = [0u8; 20];
-    let count = io::decimal(n as u64, &mut digits);
-    buffers::copy_in(&digits[..count], out, at)
+    let count = io::decimal(u64::from(n), &mut digits);
+    put(&digits[..count], line);
+}
+
+// Puts a blank and a number in decimal.
+fn put_number(n: u32, line: &mut Line)
+    requires { length line.old.items + 11 ≤ 544 }
+    ensures items { line.new.items ≡ line.old.items ++ (32 ∷ decimal n) }
+    ensures len { length line.new.items ≤ length line.old.items + 11 }
+    ensures small { n ≤ 255 → length line.new.items ≤ length line.old.items + 4 }
+{
+    put(b" ", line);
+    put_decimal(n, line);
 }
 
 // The lower-case hex digit of a number below 16.
@@ -37,87 +54,72 @@ fn hex_digit(d: u8) -> u8
     if d < 10 { 48 + d } else { 87 + d }
 }
 
-// Puts the two hex digits of a byte from `at` on, and answers the index behind them.
-fn put_hex_byte(x: u8, out: &mut [u8], at: usize) -> usize
-    requires { at + 2 ≤ length out.old }
-    ensures { Appends out.old at (hex_digit (x / 16) ∷ hex_digit (x % 16) ∷ []) out.new result }
+// Puts bytes as two hex digits each.
+fn put_hex(bytes: &[u8], line: &mut Line)
+    requires { length line.old.items + 2 * length bytes.now ≤ 544 }
+    ensures items { line.new.items ≡ line.old.items ++ hex bytes.now }
+    ensures len { length line.new.items ≡ length line.old.items + 2 * length bytes.now }
 {
-    let low = put_byte(hex_digit(x / 16), out, at);
-    put_byte(hex_digit(x % 16), out, low)
-}
-
-// Puts the hex digits of bytes from `at` on, and answers the index behind them.
-fn put_hex(bytes: &[u8], out: &mut [u8], at: usize) -> usize
-    requires { at + 2 * length bytes.now ≤ length out.old }
-    ensures { Appends out.old at (hex bytes.now) out.new result }
-{
-    let mut i: usize = 0;
-    let mut next = at;
-    while i < bytes.len() {
-        next = put_hex_byte(bytes[i], out, next);
-        i += 1;
+    for x in bytes {
+        line.push(hex_digit(*x / 16));
+        line.push(hex_digit(*x % 16));
     }
-    next
 }
 
-// Puts a blank and a number in decimal from `at` on, and answers the index behind them.
-fn put_number(n: u32, out: &mut [u8], at: usize) -> usize
-    requires { at + 11 ≤ length out.old }
-    ensures { Appends out.old at (32 ∷ decimal n) out.new result }
+// The line of a message that was recovered, but for its line feed.
+fn ok_line(recovered: Recovered, message: &[u8]) -> Line
+    requires told { recovered.length ≤ 255 }
+    requires message { length message.now ≤ 255 }
+    ensures line { result.items ≡ ok_head recovered.length recovered.mode recovered.cost message.now }
+    ensures within { length result.items ≤ 543 }
 {
-    let next = put_byte(32, out, at);
-    put_decimal(n, out, next)
+    let Recovered { length, mode, cost } = recovered;
+    let mut line = Line::new();
+    put(b"OK", &mut line);
+    put_number(length, &mut line);
+    put_number(mode, &mut line);
+    put_number(cost, &mut line);
+    put(b" ", &mut line);
+    put_hex(message, &mut line);
+    line
 }
 
-// Puts a blank, the message in hex and a line feed from `at` on, and answers the index behind them.
-fn put_message(message: &[u8], out: &mut [u8], at: usize) -> usize
-    requires { at + 2 * length message.now + 2 ≤ length out.old }
-    ensures { Appends out.old at (32 ∷ (hex message.now ++ (10 ∷ []))) out.new result }
+// The line of a refusal, but for its line feed.
+fn refused_line(refusal: Refusal) -> Line
+    ensures line { result.items ≡ refused_head (number refusal) }
+    ensures within { length result.items ≤ 543 }
 {
-    let start = put_byte(32, out, at);
-    let end = put_hex(message, out, start);
-    put_byte(10, out, end)
+    let mut line = Line::new();
+    put(b"REFUSED", &mut line);
+    put_number(refusal.into(), &mut line);
+    line
 }
 
-// Puts the line of a message that was recovered to the start of `out`, and answers its length.
-fn put_ok(l: u32, mode: u32, cost: u32, message: &[u8], out: &mut [u8]) -> usize
-    requires { Roomy l message.now out.old }
-    ensures { Lines (ok_line l mode cost message.now) out.new result }
+// What reading a capture and then recovering answer, its message at the start of `message`.
+fn recovered(input: &[u8], message: &mut [u8; 255]) -> Result<Recovered, Refusal>
+    ensures { MatchResult result (Recounted input.now message.new) (λ refusal. number refusal ≡ report_refusal input.now) }
 {
-    let head = [79u8, 75, 32];
-    let after_head = buffers::copy_in(&head, out, 0);
-    let after_length = put_decimal(l, out, after_head);
-    let after_mode = put_number(mode, out, after_length);
-    let after_cost = put_number(cost, out, after_mode);
-    put_message(message, out, after_cost)
+    let mut marks = [0u8; 259];
+    let mut values = [0u8; 6216];
+    let l = capture::read_back(input, &mut marks, &mut values)?;
+    let packets = l as usize + 4;
+    uplink::recover(
+        u64::from(l),
+        &marks[..packets],
+        &values[..24 * packets],
+        message,
+    )
 }
 
-// Puts the line of a refusal to the start of `out`, and answers its length.
-fn put_refused(number: u32, out: &mut [u8]) -> usize
-    requires { 544 ≤ length out.old }
-    ensures { Lines (refused_line number) out.new result }
+// The line of a capture, but for its line feed.
+fn line_of(input: &[u8]) -> Line
+    ensures line { result.items ++ (10 ∷ []) ≡ report_line input.now }
+    ensures within { length result.items ≤ 543 }
 {
-    let head = [82u8, 69, 70, 85, 83, 69, 68, 32];
-    let after_head = buffers::copy_in(&head, out, 0);
-    let after_number = put_decimal(number, out, after_head);
-    put_byte(10, out, after_number)
-}
-
-// Recovers the message of l bytes behind marks and values that were read, puts its line or that of the refusal to the start of `out`, and answers its length.
-fn put_recovered(l: u32, marks: &[u8], values: &[u8], out: &mut [u8]) -> usize
-    requires { Parts-as-Read l marks.now values.now out.old }
-    ensures { Lines (recovered_line l (take (l + 4) marks.now) (take (24 * (l + 4)) values.now)) out.new result }
-{
-    let told = l as usize;
-    let packets = told + 4;
-    let size = 24 * packets;
     let mut message = [0u8; 255];
-    let answer = uplink::recover(l as u64, &marks[..packets], &values[..size], &mut message);
-    match answer {
-        Recovered::Done { length, mode, cost } => {
-            put_ok(length, mode, cost, &message[..told], out)
-        }
-        Recovered::Refused(number) => put_refused(number, out),
+    match recovered(input, &mut message) {
+        Ok(recovered) => ok_line(recovered, &message[..recovered.length as usize]),
+        Err(refusal) => refused_line(refusal),
     }
 }
 
@@ -126,13 +128,11 @@ pub fn report_line(input: &[u8], out: &mut [u8]) -> usize
     requires { 544 ≤ length out.old }
     ensures { Reports input.now out.new result }
 {
-    let mut marks = [0u8; 259];
-    let mut values = [0u8; 6216];
-    let answer = capture::read_back(input, &mut marks, &mut values);
-    match answer {
-        Read::Done(told) => put_recovered(told, &marks, &values, out),
-        Read::Refused(number) => put_refused(number, out),
-    }
+    let mut line = line_of(input);
+    line.push(b'\n');
+    let size = line.len();
+    out[..size].copy_from_slice(line.as_slice());
+    size
 }
 
 // Reads to the end of the input, or until the buffer is full, and answers how many bytes of it are kept. A failed read
@@ -141,20 +141,14 @@ fn read_full<R: std::io::Read>(reader: &mut R, kept: &mut [u8]) -> usize
     ensures { result ≤ length kept.old }
 {
     let mut at: usize = 0;
-    while at < kept.len() {
-        let count = match reader.read(&mut kept[at..]) {
-            Ok(count) => count,
-            Err(_) => 0,
-        };
-        if count == 0 {
-            return at;
-        }
+    while let Ok(count @ 1..) = reader.read(&mut kept[at..]) {
         at += count;
     }
     at
 }
 
-// Reads standard input to its end, or until 7,260 bytes are kept, one more than the longest capture has, and writes the line of what was kept to standard output.
+// Reads standard input to its end, or until 7,260 bytes are kept, one more than the longest capture has, and writes the
+// line of what was kept to standard output.
 pub fn report<R: Input + Print>(rt: &R) -> std::io::Result<()> {
     let mut input = [0u8; 7260];
     let kept = read_full(&mut rt.reader(), &mut input);

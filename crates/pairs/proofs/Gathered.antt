@@ -6,6 +6,8 @@ use Prim.Native.Nat.{ℕ, ◌+◌, ◌-◌, ◌*◌, ◌≤◌, ◌<◌}
 use native.Mathlib.Omega.{arith}
 use lib.Dec.{eqb}
 use lib.ListN.{length, get_or, set, length-set}
+use Rattle.std.specs.List.{slice_range}
+use Rattle.std.proofs.lemmas.List.Edits.{get_or-between}
 use borrow.Author.Tests.{lt-ltb, le-ltb}
 use Rattle.interleave.specs.Interleave.{coded_bits, Placed, Length}
 use Rattle.interleave.specs.Bursts.{value_of}
@@ -13,14 +15,20 @@ use Rattle.interleave.proofs.Bursts.{heard_placed}
 use Rattle.interleave.proofs.Placed.{placed_here}
 use Rattle.pairs.specs.Turns.{turn_of, Gathered}
 use Rattle.pairs.specs.Walks.{Walks}
-use Rattle.pairs.specs.Sizes.{GatherSizes}
-use Rattle.pairs.proofs.Spread.{spread_none, spread_one, spread_join}
+use Rattle.pairs.proofs.Spread.{spread_one, spread_join}
 use Rattle.pairs.proofs.Turns.{turn_of_low, turn_of_high, gather_turn_placed, gather_turn_injective}
-use Rattle.pairs.proofs.Walks.{walks_low, walks_high, walks_next}
+use Rattle.pairs.proofs.Walks.{walks_low, walks_high}
 
 -- value p of sub-packet s, or zero where it is lost
 abbrev pub value_at : List ℕ → List ℕ → ℕ → ℕ → ℕ
 value_at marks values s p = cond (eqb (get_or marks s 0) 1) (get_or values (24 * s + p) 0) 0
+
+-- .. taken from the 24 of its sub-packet
+pub value_here : (marks values : List ℕ) (s p : ℕ)
+    → p < 24
+    → cond (eqb (get_or marks s 0) 1) (get_or (slice_range values (24 * s) (24 * s + 24)) p 0) 0
+    ≡ value_at marks values s p
+value_here marks values s p h = rw (get_or-between values (24 * s) (24 * s + 24) p 0 (omega arith))
 
 value_of_low : (k : ℕ) → value_of (11 - k) ≡ 11 - k
 value_of_low k = rw (lt-ltb (11 - k) 12 (omega arith))
@@ -63,45 +71,3 @@ module _ {l : ℕ} (marks values : List ℕ) (long : Length l) where
       let end : 24 * s + 2 * (k + 1) ≡ 24 * s + 2 * k + 1 + 1 = omega arith in
       rw end
       (spread_join (omega arith) (omega arith) before (spread_join (omega arith) (omega arith) lower higher))
-
--- a loop over the pairs of sub-packet s from `from` on, before pair k
-pub record Gathering (l : ℕ) (marks values : List ℕ) (s from k e a b step : ℕ) (old out : List ℕ) : Type 0 where
-  pub room : coded_bits l ≤ length out
-  pub walks : Walks l s k e a b step
-  pub since : from ≤ k
-  pub gathered : Gathered l marks values (24 * s + 2 * from) (24 * s + 2 * k) old out
-
-module _ {l s k e a b step : ℕ} {marks values out : List ℕ} where
-  -- no pair yet
-  pub gathering_start : coded_bits l ≤ length out → Walks l s k e a b step → Gathering l marks values s k k e a b step out out
-  gathering_start room w = record { room = room; walks = w; since = omega arith; gathered = spread_none (24 * s + 2 * k) out }
-
-  module _ {from : ℕ} {old : List ℕ} (g : Gathering l marks values s from k e a b step old out) where
-    -- one pair more
-    pub gathering_next : {v v' : ℕ}
-        → k < e
-        → v ≡ value_at marks values s (11 - k)
-        → v' ≡ value_at marks values s (12 + k)
-        → Gathering l marks values s from (k + 1) e (a + step) (b + step) step old (set (set out a v) b v')
-    gathering_next {v} {v'} more right right' =
-        record {
-          room = simp length-set g.room;
-          walks = walks_next g.walks more;
-          since = omega (arith, g.since);
-          gathered =
-              gathered_pair marks values g.walks.message v v' g.room g.walks more right right'
-              (omega (arith, g.since))
-              g.gathered;
-        }
-
-    -- the pairs are through
-    pub gathering_end : e ≤ k → Gathered l marks values (24 * s + 2 * from) (24 * s + 2 * e) old out
-    gathering_end done = let same : e ≡ k = omega (arith, g.walks.pairs) in rw same g.gathered
-
--- the sizes are as before
-pub gather_sizes_kept : {l t u : ℕ} {marks values old new : List ℕ}
-    → GatherSizes l marks values old
-    → Gathered l marks values t u old new
-    → GatherSizes l marks values new
-gather_sizes_kept p g =
-    record { message = p.message; marked = p.marked; valued = p.valued; room = rw g.sized p.room }

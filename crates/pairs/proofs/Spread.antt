@@ -1,13 +1,12 @@
 -- Stores that are spread over a list and come in turns: none, one, and those of two runs of turns that join. Assumes nothing.
-use mathlib.Core.Bool.{Bool, true, false}
 use mathlib.Core.List.{List}
 use mathlib.Core.Path.{◌≡◌, refl, ◌∙◌}
+use mathlib.Core.Logic.{◌⊎◌, inl, inr}
 use Prim.Native.Nat.{ℕ, ◌+◌, ◌≤◌, ◌<◌}
 use native.Mathlib.Omega.{arith}
-use lib.Dec.{ltb}
 use lib.ListN.{length, get_or, set, length-set}
 use lib.Seq.{get_or-set_same, get_or-set_other}
-use borrow.Author.Tests.{ltb-true, ltb-false}
+use Rattle.std.proofs.lemmas.Bool.{cases_lt}
 use Rattle.pairs.specs.Turns.{Spread}
 
 module _ {n : ℕ} {turn : ℕ → ℕ} {Right : ℕ → ℕ → Type 0} where
@@ -25,16 +24,15 @@ module _ {n : ℕ} {turn : ℕ → ℕ} {Right : ℕ → ℕ → Type 0} where
   spread_join {t} {u} {v} {a} {b} {c} tu uv p q =
       record {
         sized = q.sized ∙ p.sized;
-        written = λ x h from to. go x h from to (ltb (turn x) u) refl;
+        written = λ x h from to. go x h from to (cases_lt (turn x) u);
         kept =
             λ x h.
             q.kept x (λ inside from to. h inside (omega arith) to) ∙ p.kept x (λ inside from to. h inside from (omega arith));
       }
     where
-      go : (x : ℕ) → x < n → t ≤ turn x → turn x < v → (b : Bool) → ltb (turn x) u ≡ b → Right x (get_or c x 0)
-      go x h from to true e =
-          rw (q.kept x (λ inside from' to'. omega (arith, ltb-true (turn x) u e))) (p.written x h from (ltb-true (turn x) u e))
-      go x h from to false e = q.written x h (ltb-false (turn x) u e) to
+      go : (x : ℕ) → x < n → t ≤ turn x → turn x < v → (turn x < u) ⊎ (u ≤ turn x) → Right x (get_or c x 0)
+      go x h from to (inl below) = rw (q.kept x (λ inside from' to'. omega arith)) (p.written x h from below)
+      go x h from to (inr above) = q.written x h above to
 
   -- the numbers of the turns, written in another way
   pub spread_turns : {t t' u u' : ℕ} {a b : List ℕ} → Spread n turn Right t u a b → t ≡ t' → u ≡ u' → Spread n turn Right t' u' a b

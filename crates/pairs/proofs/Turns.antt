@@ -2,8 +2,10 @@
 use mathlib.Core.Bool.{Bool, true, false, cond, ◌&&◌}
 use mathlib.Core.Path.{◌≡◌, refl, sym, ◌∙◌, ap}
 use Prim.Native.Nat.{ℕ, ◌+◌, ◌-◌, ◌*◌, ◌/◌, ◌%◌, ◌≤◌, ◌<◌}
+use mathlib.Core.Logic.{◌⊎◌, inl, inr}
 use native.Mathlib.Omega.{arith}
 use lib.Dec.{ltb, eqb}
+use Rattle.std.proofs.lemmas.Bool.{cases_lt}
 use borrow.Author.Tests.{ltb-true, ltb-false, eqb-true, lt-ltb, le-ltb}
 use Rattle.interleave.specs.Interleave.{Length, Placed, DataSymbol}
 use Rattle.lists.proofs.Every.{every-at, &&-left, &&-right}
@@ -18,9 +20,9 @@ pub turn_of_high : (k : ℕ) → k < 12 → turn_of (24 + k) ≡ 2 * k + 1
 unfolding turn_of
 turn_of_high k h = rw (le-ltb (24 + k) 12 (omega arith), le-ltb (24 + k) 24 (omega arith)) (omega arith)
 
-pub turn_of-pilot : (p : ℕ) → p < 12 → turn_of (12 + p) ≡ 24 + p
+pub turn_of_pilot : (m : ℕ) → 12 ≤ m → m < 24 → turn_of m ≡ 12 + m
 unfolding turn_of
-turn_of-pilot p h = rw (le-ltb (12 + p) 12 (omega arith), lt-ltb (12 + p) 24 (omega arith)) (omega arith)
+turn_of_pilot m low high = rw (le-ltb m 12 low, lt-ltb m 24 high)
 
 -- the symbol whose turn it is
 symbol_at : ℕ → ℕ
@@ -55,6 +57,16 @@ turn_of_data {m} d = go (ltb m 12) refl
     go true e = omega arith
     go false e =
         let above : 24 ≤ m = d.outside (ltb-false m 12 e) in rw (le-ltb m 24 above) (omega (arith, d.inside))
+
+-- .. and only the pilot comes after them
+pub turn_of_late : (m : ℕ) → m < 36 → 24 ≤ turn_of m → (12 ≤ m) × (m < 24)
+unfolding turn_of
+turn_of_late m h late = go (cases_lt m 12) (cases_lt m 24)
+  where
+    go : (m < 12) ⊎ (12 ≤ m) → (m < 24) ⊎ (24 ≤ m) → (12 ≤ m) × (m < 24)
+    go (inl a) b = absurd (omega (arith, rw (lt-ltb m 12 a) at late))
+    go (inr a) (inl b) = (a, b)
+    go (inr a) (inr b) = absurd (omega (arith, rw (le-ltb m 12 a, le-ltb m 24 b) at late))
 
 -- a coded bit's turn is that of its place ..
 pub gather_turn_placed : {l j s m : ℕ} → Placed l j s m → gather_turn l j ≡ 24 * s + turn_of m

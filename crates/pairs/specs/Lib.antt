@@ -1,3 +1,3 @@
 pub mod Walks
-pub mod Sizes
+pub mod Over
 pub mod Turns

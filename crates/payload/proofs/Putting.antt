@@ -1,46 +1,15 @@
--- Stores of fields: the bits of a byte, of a mode and of a run of bytes, each as one run of stores, and one run after another. Assumes nothing.
+-- Stores of fields: the bits of a number and of a run of bytes, each as one run of stores, and one run after another. Assumes nothing.
 use mathlib.Core.Bool.{Bool}
-use mathlib.Core.List.{List, [], ◌∷◌, ◌++◌, map, map-append, append-nil}
+use mathlib.Core.List.{List, [], ◌∷◌, ◌++◌, map, map-append, append-nil, append_assoc}
 use mathlib.Core.Path.{◌≡◌, refl, sym, ap, ◌∙◌}
-use Prim.Native.Nat.{ℕ, suc, ◌+◌, ◌*◌, ◌/◌, ◌%◌, ◌^◌, ◌<◌, ◌≤◌}
-use native.Mathlib.Nat.{mod-lt, div-one}
+use Prim.Native.Nat.{ℕ, suc, ◌+◌, ◌-◌, ◌*◌, ◌<◌, ◌≤◌}
 use native.Mathlib.Numerals.{add-one}
 use native.Mathlib.Omega.{arith}
-use lib.ListN.{length, get_or, set, take, length-map}
-use lib.Seq.{sets, length-sets, take-suc, take_all, length-take-le}
-use Rattle.bits.specs.Bits.{bit, is_one, bits_of, bits_of_bytes}
-use Rattle.bits.proofs.Bits.{bit-is_one, length-bits_of_bytes, bits_of_bytes-append}
-
--- the byte of bit k of a number
-bit_at : (k x : ℕ) → bit (is_one (x / 2 ^ k % 2)) ≡ x / 2 ^ k % 2
-bit_at k x = bit-is_one (x / 2 ^ k % 2) (mod-lt (x / 2 ^ k) (omega arith))
-
-byte_bits : (x : ℕ)
-    → x / 128 % 2 ∷ x / 64 % 2 ∷ x / 32 % 2 ∷ x / 16 % 2 ∷ x / 8 % 2 ∷ x / 4 % 2 ∷ x / 2 % 2 ∷ x % 2 ∷ [] ≡ map bit (bits_of 8 x)
-unfolding bits_of
-byte_bits x = cc (bit_at 7 x, bit_at 6 x, bit_at 5 x, bit_at 4 x, bit_at 3 x, bit_at 2 x, bit_at 1 x, bit_at 0 x, div-one x)
-
-mode_bits : (x : ℕ) → x / 2 % 2 ∷ x % 2 ∷ [] ≡ map bit (bits_of 2 x)
-unfolding bits_of
-mode_bits x = cc (bit_at 1 x, bit_at 0 x, div-one x)
-
--- eight bits, one after another, are stored as the run of a byte's bits is
-pub stores_byte : (out : List ℕ) (at x : ℕ)
-    → set (set (set (set (set (set (set (set out at (x / 128 % 2)) (at + 1) (x / 64 % 2)) (at + 2) (x / 32 % 2)) (at + 3) (x / 16 % 2)) (at + 4) (x / 8 % 2)) (at + 5) (x / 4 % 2)) (at + 6) (x / 2 % 2)) (at + 7) (x % 2)
-    ≡ sets out at (map bit (bits_of 8 x))
-stores_byte out at x =
-    let e1 : at + 1 ≡ suc at = omega arith in
-    let e2 : at + 2 ≡ suc (suc at) = omega arith in
-    let e3 : at + 3 ≡ suc (suc (suc at)) = omega arith in
-    let e4 : at + 4 ≡ suc (suc (suc (suc at))) = omega arith in
-    let e5 : at + 5 ≡ suc (suc (suc (suc (suc at)))) = omega arith in
-    let e6 : at + 6 ≡ suc (suc (suc (suc (suc (suc at))))) = omega arith in
-    let e7 : at + 7 ≡ suc (suc (suc (suc (suc (suc (suc at)))))) = omega arith in
-    rw (e1, e2, e3, e4, e5, e6, e7) (ap (λ (l : List ℕ). sets out at l) (byte_bits x))
-
--- and two as the run of a mode's bits
-pub stores_mode : (out : List ℕ) (at x : ℕ) → set (set out at (x / 2 % 2)) (at + 1) (x % 2) ≡ sets out at (map bit (bits_of 2 x))
-stores_mode out at x = rw add-one (ap (λ (l : List ℕ). sets out at l) (mode_bits x))
+use lib.ListN.{length, get_or, set, take, drop, length-map}
+use lib.Seq.{sets, sets-eq, length-sets, take-suc, take_all, length-take-le, drop-drop}
+use borrow.Rule.Slice.PartMut.{put_mid}
+use Rattle.bits.specs.Bits.{bit, bits_of, bits_of_bytes}
+use Rattle.bits.proofs.Bits.{length-bits_of_bytes, bits_of_bytes-append}
 
 -- one run of stores after another
 sets_append : (xs ys old : List ℕ) (at : ℕ) → sets (sets old at xs) (at + length xs) ys ≡ sets old at (xs ++ ys)
@@ -50,6 +19,13 @@ sets_append [] ys old at =
 sets_append (x ∷ xs) ys old at =
     let e : at + suc (length xs) ≡ suc at + length xs = omega arith in
     rw e (sets_append xs ys (set old at x) (suc at))
+
+-- a run that takes the place of a part is stored there
+pub part-sets : (xs vs : List ℕ) {ys : List ℕ} (at k : ℕ) → ys ≡ vs → length vs ≡ k → at + k ≤ length xs
+    → put_mid at (at + k - at) xs ys ≡ sets xs at vs
+part-sets xs vs at k e long room =
+    let size : at + k - at ≡ k = omega arith in
+    rw (size, e) (ap (λ (x : List ℕ). take at xs ++ (vs ++ x)) (drop-drop k at xs) ∙ sym (rw long at (sets-eq vs xs at (omega (arith, long))) ∙ append_assoc (take at xs) vs (drop (at + k) xs)))
 
 -- two runs of bits, stored one after another
 pub sets_then : (old : List ℕ) (at : ℕ) (ps qs : List Bool) {mid new : List ℕ} {next : ℕ} → mid ≡ sets old at (map bit ps) → next ≡ at + length ps

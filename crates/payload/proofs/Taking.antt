@@ -1,12 +1,13 @@
--- Reads of fields: the loop that makes a byte of eight bits, the two bits of a mode, and the loop that takes the bytes of a message. Assumes nothing.
+-- Reads of fields: the loop that makes a number of bits, and the loop that takes the bytes of a message. Assumes nothing.
 use mathlib.Core.Bool.{Bool, true, false}
 use mathlib.Core.List.{List, [], ◌∷◌, ◌++◌, map}
 use mathlib.Core.Path.{◌≡◌, refl, sym, ap, ◌∙◌}
-use Prim.Native.Nat.{ℕ, zero, suc, ◌+◌, ◌*◌, ◌<◌, ◌≤◌}
-use native.Mathlib.Nat.{zero-add, pow-le-pow_right, lt_of_lt_of_le}
+use Prim.Native.Nat.{ℕ, zero, suc, ◌+◌, ◌-◌, ◌*◌, ◌<◌, ◌≤◌}
+use native.Mathlib.Nat.{pow-le-pow_right, lt_of_lt_of_le}
 use native.Mathlib.Numerals.{add-one}
 use native.Mathlib.Omega.{arith}
 use lib.ListN.{length, get_or, set, take, drop, length-map, length-drop, length-set, get_or-map}
+use Rattle.std.proofs.lemmas.List.{get_or-take}
 use lib.Seq.{take-suc, get_or-drop, drop-cons, drop-drop, set_at, append_snoc, length-take-le}
 use Rattle.bits.specs.Bits.{bit, is_one, number_of}
 use Rattle.bits.proofs.Bits.{bit-is_one, number_of-append}
@@ -29,44 +30,46 @@ field_more bits at k binary h =
     let carried : bit (is_one (get_or bits (at + k) 0)) ≡ get_or bits (at + k) 0 = bit-is_one (get_or bits (at + k) 0) (binary (at + k) h) in
     rw (add-one k, take-suc (drop at (map is_one bits)) k (is_one 0) inside, last, number_of-append, number_of-bit, carried)
 
--- the loop that makes a byte: the number of the bits before bit k
-pub record Reading (bits : List ℕ) (at x k : ℕ) : Type 0 where
-  pub within : k ≤ 8
+-- the loop that makes a number: that of the bits before bit k of the field
+pub record Reading (bits : List ℕ) (at count x k : ℕ) : Type 0 where
   pub number : x ≡ number_of (take k (drop at (map is_one bits)))
 
-pub reading_start : (bits : List ℕ) (at : ℕ) → Reading bits at 0 0
+pub reading_start : (bits : List ℕ) (at count : ℕ) → Reading bits at count 0 0
 unfolding number_of
-reading_start bits at = record { within = omega arith; number = refl }
+reading_start bits at count = record { number = refl }
 
--- there is room for a bit more
-pub reading_below : {bits : List ℕ} {at x k : ℕ} → Reading bits at x k → PartOf bits at 8 → k < 8 → x < 128
-reading_below {bits} {at} {x} {k} p part h =
-    let long : length (take k (drop at (map is_one bits))) ≡ k =
-    length-take-le k (drop at (map is_one bits)) (rw (length-drop, length-map) (omega (arith, part.within))) in
-    rw p.number (lt_of_lt_of_le (field_below k (take k (drop at (map is_one bits))) long) (pow-le-pow_right {n = 2} (omega arith) {i = k} {j = 7} (omega arith)))
+module _ {bits : List ℕ} {at count x k : ℕ} (p : Reading bits at count x k) (part : PartOf bits at count) (inside : k < length (take (at + count - at) (drop at bits))) where
+  size : at + count - at ≡ count
+  size = omega arith
 
-pub reading_step : {bits : List ℕ} {at x k : ℕ} → Reading bits at x k → PartOf bits at 8 → k < 8
-    → Reading bits at (x * 2 + get_or bits (at + k) 0) (k + 1)
-reading_step {bits} {at} {x} {k} p part h =
-    record {
-      within = omega arith;
-      number = rw p.number (sym (field_more bits at k part.binary (omega (arith, part.within))));
-    }
+  before : k < count
+  before = rw (size, length-take-le count (drop at bits) (rw length-drop (omega (arith, part.within)))) at inside
 
-pub reading_end : {bits : List ℕ} {at x k : ℕ} → Reading bits at x k → 8 ≤ k → x ≡ number_of (take 8 (drop at (map is_one bits)))
-reading_end {k = k} p h =
-    let e : k ≡ 8 = omega (arith, p.within) in
+  -- there is room for a bit more
+  pub reading_below : count ≤ 8 → x < 128
+  reading_below byte =
+      let long : length (take k (drop at (map is_one bits))) ≡ k =
+      length-take-le k (drop at (map is_one bits)) (rw (length-drop, length-map) (omega (arith, part.within, before))) in
+      rw p.number (lt_of_lt_of_le (field_below k (take k (drop at (map is_one bits))) long) (pow-le-pow_right {n = 2} (omega arith) {i = k} {j = 7} (omega (arith, before))))
+
+  -- the bit that the loop has in hand
+  here : get_or (take (at + count - at) (drop at bits)) k 0 ≡ get_or bits (at + k) 0
+  here = rw size (get_or-take count (drop at bits) k 0 before ∙ get_or-drop at bits k 0)
+
+  pub reading_bit : get_or (take (at + count - at) (drop at bits)) k 0 < 2
+  reading_bit = rw here (part.binary (at + k) (omega (arith, part.within, before)))
+
+  pub reading_step : Reading bits at count (x * 2 + get_or (take (at + count - at) (drop at bits)) k 0) (k + 1)
+  reading_step = record { number = rw (here, p.number) (sym (field_more bits at k part.binary (omega (arith, part.within, before)))) }
+
+-- and at the end it is that of all of them
+pub reading_end : {bits : List ℕ} {at count x k : ℕ} → Reading bits at count x k → PartOf bits at count
+    → k ≤ length (take (at + count - at) (drop at bits)) → length (take (at + count - at) (drop at bits)) ≤ k → x ≡ number_of (take count (drop at (map is_one bits)))
+reading_end {bits} {at} {count} {x} {k} p part most least =
+    let size : at + count - at ≡ count = omega arith in
+    let long : length (take (at + count - at) (drop at bits)) ≡ count = rw size (length-take-le count (drop at bits) (rw length-drop (omega (arith, part.within)))) in
+    let e : k ≡ count = omega (arith, long) in
     rw e at p.number
-
--- two bits
-pub number_of_two : {bits : List ℕ} {at : ℕ} → PartOf bits at 2
-    → get_or bits at 0 * 2 + get_or bits (at + 1) 0 ≡ number_of (take 2 (drop at (map is_one bits)))
-unfolding number_of
-number_of_two {bits} {at} part =
-    let none : at + 0 ≡ at = omega arith in
-    let one : number_of (take 1 (drop at (map is_one bits))) ≡ get_or bits at 0 =
-    rw none at (field_more bits at 0 part.binary (omega (arith, part.within))) ∙ zero-add (get_or bits at 0) in
-    sym (field_more bits at 1 part.binary (omega (arith, part.within)) ∙ rw one)
 
 -- the loop that takes the bytes of a message
 

@@ -1,11 +1,11 @@
 -- What the payload's functions ask and give. What `compose` gives is said by `payload`, what `open` gives by `open_refusal`, `message_of` and `mode_of`.
--- To be believed: opened_number, opened_mode. Assumes nothing.
-use Rattle.std.specs.Prelude.{List, map, ◌++◌, ◌≡◌, ℕ, ◌+◌, ◌≤◌, ◌<◌, length, get_or, drop}
+-- Assumes nothing.
+use Rattle.std.specs.Prelude.{List, map, ◌++◌, ◌≡◌, ℕ, ◌+◌, ◌≤◌, ◌<◌, length, get_or, drop, Result, Ok}
+use Rattle.refusals.specs.declared.Refusal.{Refusal}
+use Rattle.refusals.specs.Refusals.{refused, answered}
 use Rattle.bits.specs.Bits.{is_one}
 use Rattle.payload.specs.Payload.{payload_bits}
 use Rattle.payload.specs.Open.{open_refusal, message_of, mode_of}
-use Rattle.payload.specs.declared.Opened.{Opened}
-use Rattle.payload.specs.declared.Opened.TheVariants.{Done, Refused}
 
 -- a message that can be sent, and room for its payload
 pub record Composable (message : List ℕ) (mode : ℕ) (bits : List ℕ) : Type 0 where
@@ -38,21 +38,11 @@ pub record Openable (bits : List ℕ) (l : ℕ) (message : List ℕ) : Type 0 wh
   pub room : l ≤ length message
   pub binary : Binary bits
 
--- document 01's number of an answer: 0 where the message was taken, else 7, 8 or 9
-abbrev pub opened_number : Opened → ℕ
-opened_number (Done mode) = 0
-opened_number (Refused refusal) = refusal
-
--- the mode that an answer has, where it has one
-abbrev pub opened_mode : Opened → ℕ
-opened_mode (Done mode) = mode
-opened_mode (Refused refusal) = 0
-
 -- what opening gives: the number of the first check that fails. Where none does, the mode, and the message at the start of the buffer; where one does, the
 -- buffer as it came
-pub record Opening (l : ℕ) (bits old new : List ℕ) (r : Opened) : Type 0 where
-  pub number : opened_number r ≡ open_refusal l (map is_one bits)
-  pub done : open_refusal l (map is_one bits) ≡ 0 → r ≡ Done (opened_mode r)
-  pub mode : open_refusal l (map is_one bits) ≡ 0 → opened_mode r ≡ mode_of l (map is_one bits)
+pub record Opening (l : ℕ) (bits old new : List ℕ) (r : Result ℕ Refusal) : Type 0 where
+  pub number : refused r ≡ open_refusal l (map is_one bits)
+  pub done : open_refusal l (map is_one bits) ≡ 0 → r ≡ Ok (answered r)
+  pub mode : open_refusal l (map is_one bits) ≡ 0 → answered r ≡ mode_of l (map is_one bits)
   pub message : open_refusal l (map is_one bits) ≡ 0 → new ≡ message_of l (map is_one bits) ++ drop l old
   pub kept : (open_refusal l (map is_one bits) ≡ 0 → ⊥) → new ≡ old

@@ -1,14 +1,13 @@
 -- The whole of a frame: the values of all turns are those received, the symbols of all turns make the frame, and only one buffer is so filled.
 -- Assumes nothing.
-use mathlib.Core.Bool.{Bool, true, false}
 use mathlib.Core.List.{List, ◌++◌}
 use mathlib.Core.Path.{◌≡◌, refl, sym, ◌∙◌, ap, ap₂}
+use mathlib.Core.Logic.{◌⊎◌, inl, inr}
 use Prim.Native.Nat.{ℕ, ◌+◌, ◌-◌, ◌*◌, ◌≤◌, ◌<◌}
 use native.Mathlib.Omega.{arith}
-use lib.Dec.{ltb}
 use lib.ListN.{length, get_or, take, drop, length-append, length-drop, get_or-append, take-append-drop}
 use lib.Seq.{get_or-append-add, length-take-le, get_or-take, get_or-drop, ext_get_or}
-use borrow.Author.Tests.{ltb-true, ltb-false}
+use Rattle.std.proofs.lemmas.Bool.{cases_lt}
 use Rattle.interleave.specs.Interleave.{coded_bits, sub_packets, Length}
 use Rattle.interleave.specs.Bursts.{received}
 use Rattle.interleave.proofs.Bursts.{length-received, get_or-received, bursts_unique}
@@ -29,19 +28,18 @@ module _ {l : ℕ} (marks values : List ℕ) (long : Length l) where
       sized = simp (length-append, length-received, length-drop) (omega (arith, g.sized))
 
       same : (j : ℕ) → j < length new → get_or new j 0 ≡ get_or (received l marks values ++ drop (coded_bits l) old) j 0
-      same j h = go (ltb j (coded_bits l)) refl
+      same j h = go (cases_lt j (coded_bits l))
         where
-          go : (b : Bool) → ltb j (coded_bits l) ≡ b → get_or new j 0 ≡ get_or (received l marks values ++ drop (coded_bits l) old) j 0
-          go true e =
-              let inside : j < coded_bits l = ltb-true j (coded_bits l) e in
+          go : (j < coded_bits l) ⊎ (coded_bits l ≤ j)
+              → get_or new j 0 ≡ get_or (received l marks values ++ drop (coded_bits l) old) j 0
+          go (inl inside) =
               let p = placed_here long inside in
               let turn : gather_turn l j < 24 * sub_packets l =
               omega (arith, gather_turn_placed p, turn_of_data (placed_data long p), placed_packet long p) in
               g.written j inside (omega arith) turn
               ∙ sym (get_or-received l marks values j inside)
               ∙ sym (get_or-append (received l marks values) (drop (coded_bits l) old) 0 j (omega (arith, length-received l marks values)))
-          go false e =
-              let outside : coded_bits l ≤ j = ltb-false j (coded_bits l) e in
+          go (inr outside) =
               let split : j ≡ length (received l marks values) + (j - coded_bits l) = omega (arith, length-received l marks values) in
               let whole : coded_bits l + (j - coded_bits l) ≡ j = omega arith in
               g.kept j (λ inside from to. omega arith)

@@ -7,6 +7,8 @@ use native.Mathlib.Omega.{arith}
 use lib.Ieee.{Float, nan, binary32, to_bits}
 use lib.ListN.{length, get_or, set, take, length-set}
 use lib.Seq.{take-suc, take_all}
+use Rattle.std.proofs.Common.{rules}
+use Rattle.std.specs.Ordering.{ord_max, nat_cmp}
 use Rattle.buffers.specs.Buffers.{Appends}
 use Rattle.buffers.proofs.Appending.{appends_none, appends_then}
 use Rattle.quantise.specs.Number.{number_of}
@@ -19,6 +21,10 @@ greatest_more : (bs : List ℕ) (b : ℕ) → greatest (bs ++ (b ∷ [])) ≡ ma
 unfolding greatest
 greatest_more [] b = omega arith
 greatest_more (a ∷ bs) b = omega (arith, greatest_more bs b)
+
+-- the library's maximum of two numbers
+pub ord_max_max : (a b : ℕ) → ord_max nat_cmp a b ≡ max a b
+ord_max_max a b = search rules
 
 -- before number i: the values of those before it are written, and peak is the greatest of their bits without signs
 pub record Filling (numbers : List Float) (old out : List ℕ) (peak i : ℕ) : Type 0 where

@@ -3,6 +3,7 @@ use mathlib.Core.Bool.{true, false, not}
 use mathlib.Core.List.{List, [], ◌∷◌}
 use mathlib.Core.Logic.{⊎_elim}
 use mathlib.Core.Path.{◌≡◌, sym, ◌∙◌}
+use Rattle.std.specs.Prelude.{Ok}
 use Prim.Native.Nat.{ℕ, zero, suc, ◌%◌, ◌^◌, ◌≤◌, ◌<◌}
 use native.Mathlib.Nat.{not-suc-le-zero, le_of_suc-le-suc, eq-zero-or-pos}
 use native.Mathlib.Omega.{arith}
@@ -12,9 +13,7 @@ use lib.Ieee.{Float, binary32, of_bits, to_bits, is_nan}
 use lib.Ieee.Bits.{to_bits-of_bits, nan_bits_is, nan_bits_above}
 use lib.ListN.{length, get_or}
 use Rattle.quantise.specs.Finding.{some_nan, all_zero, magnitude, peak_of, finding_of}
-use Rattle.quantise.specs.declared.Quantised.{Quantised}
-use Rattle.quantise.specs.declared.Quantised.TheVariants as Quantised-is
-use Rattle.quantise.specs.Answers.{quantised_refusal}
+use Rattle.quantise.specs.Answers.{Quantised, quantised_refusal}
 use Rattle.quantise.specs.Quantise.{patterns, Quantises}
 use Rattle.quantise.specs.Promises.{Peaks, Findings}
 use Rattle.quantise.specs.Parts.{infinity, greatest}
@@ -71,7 +70,7 @@ module _ (bs : List ℕ) (no : some_nan bs ≡ false) where
       }
 
 module _ {numbers : List Float} {before after : List ℕ} {answer : Quantised} (p : Quantises numbers before after answer) (done : quantised_refusal answer ≡ 0) where
-  answered : answer ≡ Quantised-is.Done (finding_of (patterns numbers))
+  answered : answer ≡ Ok (finding_of (patterns numbers))
   answered = p.finding (sym p.refusal ∙ done)
 
   pub findings : Findings numbers answer

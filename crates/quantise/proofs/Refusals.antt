@@ -1,14 +1,16 @@
 -- Which refusal of quantising comes first, and what the contract then says. Assumes nothing.
 use mathlib.Core.List.{List}
 use mathlib.Core.Path.{◌≡◌, sym, ap, ◌∙◌}
+use Rattle.std.specs.Prelude.{Ok, Err}
 use Prim.Native.Nat.{ℕ, ◌≤◌, ◌<◌}
-use native.Mathlib.Omega.{arith}
 use borrow.Author.Tests.{eq-eqb, ne_eqb, lt-ltb, le-ltb}
 use lib.Ieee.{Float, binary32, to_bits}
 use lib.ListN.{length, length-map}
 use Rattle.buffers.proofs.Appending.{appends_front}
 use Rattle.quantise.specs.declared.Finding.{Finding}
-use Rattle.quantise.specs.declared.Quantised.TheVariants as Quantised-is
+use Rattle.refusals.specs.declared.Refusal.{Refusal}
+use Rattle.refusals.specs.Refusals.{number}
+use Rattle.refusals.proofs.Refusals.{number_not_zero}
 use Rattle.quantise.specs.Number.{number_of}
 use Rattle.quantise.specs.Value.{value_of}
 use Rattle.quantise.specs.Quantise.{patterns, values_of, quantise_refusal, Quantises}
@@ -28,12 +30,12 @@ unfolding quantise_refusal
 refusal_none count room e l = rw (eq-eqb count 24 e, le-ltb room 24 l)
 
 -- a refusal answers its number and changes nothing
-pub refused : (numbers : List Float) (before : List ℕ) (k : ℕ) → quantise_refusal (length numbers) (length before) ≡ k → 0 < k → Quantises numbers before before (Quantised-is.Refused k)
-refused numbers before k e h =
+pub refuses : (numbers : List Float) (before : List ℕ) (r : Refusal) → quantise_refusal (length numbers) (length before) ≡ number r → Quantises numbers before before (Err r)
+refuses numbers before r e =
     record {
       refusal = sym e;
-      finding = λ z. absurd (omega arith);
-      bytes = rw (e, ne_eqb k 0 (λ z. omega arith));
+      finding = λ z. absurd (number_not_zero r (sym e ∙ z));
+      bytes = rw (e, ne_eqb (number r) 0 (number_not_zero r));
     }
 
 length-values : (numbers : List Float) → length (values_of (patterns numbers)) ≡ length numbers
@@ -41,11 +43,11 @@ length-values numbers = length-map (patterns numbers) (λ b. value_of (number_of
 
 pub taken_in :
     {numbers : List Float} {before after : List ℕ} {peak : ℕ} {found : Finding}
-    → Taken numbers before → TookIn numbers before after peak → found ≡ found_at peak → Quantises numbers before after (Quantised-is.Done found)
+    → Taken numbers before → TookIn numbers before after peak → found ≡ found_at peak → Quantises numbers before after (Ok found)
 taken_in {numbers} {before} {after} {peak} {found} t p f =
     let none = refusal_none (length numbers) (length before) t.count t.room in
     record {
       refusal = sym none;
-      finding = λ z. ap Quantised-is.Done (f ∙ ap found_at p.most ∙ finding_told (patterns numbers));
+      finding = λ z. ap Ok (f ∙ ap found_at p.most ∙ finding_told (patterns numbers));
       bytes = rw none (appends_front 24 p.written (length-values numbers ∙ t.count) t.room);
     }

@@ -2,22 +2,22 @@
 use mathlib.Core.List.{List}
 use mathlib.Core.Logic.{⊎_elim}
 use mathlib.Core.Path.{◌≡◌, sym, ap, ◌∙◌}
+use Rattle.std.specs.Prelude.{Ok, Err}
 use Prim.Native.Nat.{ℕ, ◌<◌}
 use native.Mathlib.Nat.{eq-zero-or-pos}
 use native.Mathlib.Omega.{arith}
 use lib.Ieee.{Float}
 use lib.ListN.{length}
-use Rattle.quantise.specs.declared.Quantised.{Quantised}
-use Rattle.quantise.specs.declared.Quantised.TheVariants as Quantised-is
-use Rattle.quantise.specs.Answers.{quantised_refusal}
+use Rattle.refusals.proofs.Refusals.{number_injective}
+use Rattle.quantise.specs.Answers.{Quantised, quantised_refusal}
 use Rattle.quantise.specs.Quantise.{quantise_refusal, Quantises}
 use Rattle.quantise.specs.Promises.{NoSecond}
 
 -- two refusals of one number are one answer
 refused_same : (a b : Quantised) → quantised_refusal a ≡ quantised_refusal b → 0 < quantised_refusal a → a ≡ b
-refused_same (Quantised-is.Refused m) (Quantised-is.Refused n) e h = ap Quantised-is.Refused e
-refused_same (Quantised-is.Refused m) (Quantised-is.Done f) e h = absurd (omega arith)
-refused_same (Quantised-is.Done f) b e h = absurd (omega arith)
+refused_same (Err x) (Err y) e h = ap Err (number_injective x y e)
+refused_same (Err x) (Ok f) e h = absurd (omega arith)
+refused_same (Ok f) b e h = absurd (omega arith)
 
 module _ {numbers : List Float} {before after after' : List ℕ} {answer answer' : Quantised}
     (p : Quantises numbers before after answer) (q : Quantises numbers before after' answer') where

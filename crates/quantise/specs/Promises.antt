@@ -1,6 +1,6 @@
 -- What quantising promises, sentence by sentence of #101, of whatever meets its contract.
 -- To be believed: all of it. Assumes nothing.
-use Rattle.std.specs.Prelude.{Bool, true, false, not, cond, List, ◌≡◌, ℕ, ◌+◌, ◌-◌, ◌*◌, ◌%◌, ◌^◌, ◌≤◌, ◌<◌, T, Float, length, get_or}
+use Rattle.std.specs.Prelude.{Ok, Bool, true, false, not, cond, List, ◌≡◌, ℕ, ◌+◌, ◌-◌, ◌*◌, ◌%◌, ◌^◌, ◌≤◌, ◌<◌, T, Float, length, get_or}
 use Rattle.std.specs.Bool.{beq}
 use Rattle.std.specs.Float.{nan, inf, fin, binary32}
 use Rattle.std.specs.Float.Ieee.{to_bits, fits, up, down}
@@ -9,9 +9,7 @@ use Rattle.quantise.specs.Number.{Number, not_a_number, infinite, exactly, numbe
 use Rattle.quantise.specs.Value.{nearest_whole, held, byte_of, value_of}
 use Rattle.quantise.specs.Finding.{magnitude, exceeds, some_nan, all_zero}
 use Rattle.quantise.specs.declared.Finding.TheVariants.{Heard, Silent, Faulty}
-use Rattle.quantise.specs.declared.Quantised.{Quantised}
-use Rattle.quantise.specs.declared.Quantised.TheVariants as Quantised-is
-use Rattle.quantise.specs.Answers.{quantised_refusal}
+use Rattle.quantise.specs.Answers.{Quantised, quantised_refusal}
 use Rattle.quantise.specs.Quantise.{patterns, Quantises}
 
 -- ---- the kit's account of a number and what its bits stand for
@@ -96,13 +94,13 @@ pub record Peaks (bs : List ℕ) (p : ℕ) : Type 0 where
 
 pub record Findings (numbers : List Float) (answer : Quantised) : Type 0 where
   -- "faulty because a NaN was present", whatever else is there
-  pub faulty : some_nan (patterns numbers) ≡ true → answer ≡ Quantised-is.Done Faulty
+  pub faulty : some_nan (patterns numbers) ≡ true → answer ≡ Ok Faulty
   -- "Silent means that all 24 are plus or minus zero"
-  pub silent : all_zero (patterns numbers) ≡ true → answer ≡ Quantised-is.Done Silent
+  pub silent : all_zero (patterns numbers) ≡ true → answer ≡ Ok Silent
   -- "heard with its peak magnitude", in every other case; "Infinities count .. as the peak", since nothing exceeds one
   pub heard :
       some_nan (patterns numbers) ≡ false → all_zero (patterns numbers) ≡ false
-      → (peak : Float) × (answer ≡ Quantised-is.Done (Heard peak)) × Peaks (patterns numbers) (to_bits binary32 peak)
+      → (peak : Float) × (answer ≡ Ok (Heard peak)) × Peaks (patterns numbers) (to_bits binary32 peak)
 
 -- ---- every answer
 

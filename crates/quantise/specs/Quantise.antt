@@ -2,15 +2,13 @@
 -- then 3."
 -- To be believed: patterns, values_of, quantise_refusal, Quantises. A number's bits are the kit's `to_bits`; `Account`
 -- of Promises says that they tell its exact value. Assumes nothing.
-use Rattle.std.specs.Prelude.{cond, List, map, ◌++◌, ◌≡◌, ℕ, ltb, eqb, Float, length, drop}
+use Rattle.std.specs.Prelude.{Ok, cond, List, map, ◌++◌, ◌≡◌, ℕ, ltb, eqb, Float, length, drop}
 use Rattle.std.specs.Float.{binary32}
 use Rattle.std.specs.Float.Ieee.{to_bits}
 use Rattle.quantise.specs.Number.{number_of}
 use Rattle.quantise.specs.Value.{value_of}
 use Rattle.quantise.specs.Finding.{finding_of}
-use Rattle.quantise.specs.declared.Quantised.{Quantised}
-use Rattle.quantise.specs.declared.Quantised.TheVariants as Quantised-is
-use Rattle.quantise.specs.Answers.{quantised_refusal}
+use Rattle.quantise.specs.Answers.{Quantised, quantised_refusal}
 
 -- the bits of each number
 abbrev pub patterns : List Float → List ℕ
@@ -27,5 +25,5 @@ quantise_refusal count room = cond (eqb count 24) (cond (ltb room 24) 3 0) 2
 -- what quantising answers and leaves in the lent buffer, for every input
 pub record Quantises (numbers : List Float) (before after : List ℕ) (answer : Quantised) : Type 0 where
   pub refusal : quantised_refusal answer ≡ quantise_refusal (length numbers) (length before)
-  pub finding : quantise_refusal (length numbers) (length before) ≡ 0 → answer ≡ Quantised-is.Done (finding_of (patterns numbers))
+  pub finding : quantise_refusal (length numbers) (length before) ≡ 0 → answer ≡ Ok (finding_of (patterns numbers))
   pub bytes : after ≡ cond (eqb (quantise_refusal (length numbers) (length before)) 0) (values_of (patterns numbers) ++ drop 24 before) before

@@ -2,13 +2,15 @@
 // (#101). It asks nothing of its caller.
 #![tactic(auto)]
 
-ghost use Rattle.std.specs.Prelude.{◌≡◌, min, max};
+ghost use Rattle.std.specs.Prelude.{◌≡◌};
 ghost use Rattle.std.specs.Float.{binary32};
 ghost use Rattle.std.specs.Float.Ieee.{to_bits};
 ghost use Rattle.quantise.specs.Number.{number_of};
 ghost use Rattle.quantise.specs.Value.{value_of, held, nearest_whole};
 ghost use Rattle.quantise.specs.Quantise.{Quantises};
 ghost use Rattle.quantise.specs.Parts.{units_at, Middling, Taken, TookIn, found_at};
+
+use refusals::Refusal;
 
 // The sign's bit, and the least bit of the exponent: below it stands the fraction.
 const SIGN: u32 = 0x8000_0000;
@@ -34,32 +36,11 @@ pub enum Finding {
     Faulty,
 }
 
-// What quantising answers: the finding, or the number of the refusal.
-#[derive(Clone, Copy)]
-pub enum Quantised {
-    Done(Finding),
-    Refused(u32),
-}
-
 // The bits of a number; of a NaN, whatever its bits, those of one.
 fn pattern(x: f32) -> u32
     ensures { result ≡ to_bits binary32 x }
 {
-    if x != x { NAN } else { f32::to_bits(x) }
-}
-
-// The greater of two numbers.
-fn greater(a: u32, b: u32) -> u32
-    ensures { result ≡ max a b }
-{
-    if a < b { b } else { a }
-}
-
-// The lesser of two numbers.
-fn lesser(a: u32, b: u32) -> u32
-    ensures { result ≡ min a b }
-{
-    if a < b { a } else { b }
+    if x.is_nan() { NAN } else { x.to_bits() }
 }
 
 // The magnitude with these bits, from a quarter to 127, to the nearest whole number, halves up: one shift makes it a
@@ -78,7 +59,7 @@ fn rounded(m: u32) -> u32
 fn rounded_and_held(m: u32) -> u32
     ensures { result ≡ held (nearest_whole (units_at m)) }
 {
-    rounded(lesser(greater(m, QUARTER), LOUDEST))
+    rounded(m.clamp(QUARTER, LOUDEST))
 }
 
 // The value of the number with these bits.
@@ -102,12 +83,10 @@ fn take_in(numbers: &[f32], values: &mut [u8]) -> u32
     ensures { TookIn numbers.now values.old values.new result }
 {
     let mut peak = 0;
-    let mut i = 0;
-    while i < 24 {
-        let b = pattern(numbers[i]);
+    for (i, x) in numbers.iter().enumerate() {
+        let b = pattern(*x);
         values[i] = value(b);
-        peak = greater(peak, b % SIGN);
-        i += 1;
+        peak = peak.max(b % SIGN);
     }
     peak
 }
@@ -128,15 +107,15 @@ fn found(peak: u32) -> Finding
 
 // The values of 24 numbers to the start of `values`, and what was found; or the first refusal that holds of 2, 3, and
 // then nothing is written.
-pub fn quantise(numbers: &[f32], values: &mut [u8]) -> Quantised
+pub fn quantise(numbers: &[f32], values: &mut [u8]) -> Result<Finding, Refusal>
     ensures { Quantises numbers.now values.old values.new result }
 {
     if numbers.len() != 24 {
-        return Quantised::Refused(2);
+        return Err(Refusal::Size);
     }
     if values.len() < 24 {
-        return Quantised::Refused(3);
+        return Err(Refusal::Room);
     }
     let peak = take_in(numbers, values);
-    Quantised::Done(found(peak))
+    Ok(found(peak))
 }

@@ -2,14 +2,12 @@
 -- Assumes nothing.
 use mathlib.Core.List.{List}
 use mathlib.Core.Path.{◌≡◌, refl, sym, ap, subst, ◌∙◌}
-use Prim.Native.Nat.{ℕ, ◌+◌, ◌-◌, ◌*◌, ◌%◌, ◌≤◌, ◌<◌, min}
+use Prim.Native.Nat.{ℕ, ◌+◌, ◌-◌, ◌≤◌, ◌<◌}
 use native.Mathlib.Nat.{not-suc-le-zero}
 use native.Mathlib.Decide.{dec_lt}
 use native.Mathlib.Omega.{arith}
 use lib.ListN.{length, get_or, set, length-set}
-use lib.Seq.{get_or-set_other}
-use Rattle.bits.specs.Bits.{bit}
-use Rattle.rows.specs.Rows.{Low, Halves, Small, Summed, Within, Least, Chosen, Lowered, chooses, pairs_of}
+use Rattle.rows.specs.Rows.{Low, Halves, Small, Summed, Within, pairs_of}
 use Rattle.rows.proofs.Lists.{set_grows, set_keeps, pairs_of_low, pairs_of_high}
 
 -- a list of 64 whose first n numbers, and as many from the 16th, the 32nd and the 48th on, are given
@@ -145,46 +143,3 @@ module _ {row pairs : List ℕ} {all : ℕ} {zero one : List ℕ} where
       each p h (no z) =
           let e : p - 32 + 32 ≡ p = omega arith in
           subst (λ (q : ℕ). (get_or one q 0 ≤ 32767) × (get_or zero q 0 ≤ 32767)) e (odd (p - 32) (omega arith))
-
-module _ {zero one : List ℕ} where
-  pub least_none : {next : List ℕ} → length next ≡ 64 → Least 0 zero one next
-  least_none s = record { sized = s; even = λ j h. absurd (not-suc-le-zero h); odd = λ j h. absurd (not-suc-le-zero h) }
-
-  pub least_more : {next : List ℕ} (j x y : ℕ) → j < 32 → x ≡ min (get_or zero j 0) (get_or one j 0) → y ≡ min (get_or zero (j + 32) 0) (get_or one (j + 32) 0) → Least j zero one next → Least (j + 1) zero one (set (set next (2 * j) x) (2 * j + 1) y)
-  least_more {next} j x y h a b p =
-      record {
-        sized = length-set (set next (2 * j) x) (2 * j + 1) y ∙ length-set next (2 * j) x ∙ p.sized;
-        even =
-            set_keeps (set next (2 * j) x) (λ k. 2 * k) (λ k. min (get_or zero k 0) (get_or one k 0)) (2 * j + 1) y (j + 1) (λ k l e. omega arith)
-            (set_grows next (λ k. 2 * k) (λ k. min (get_or zero k 0) (get_or one k 0)) j x (omega (arith, p.sized)) (λ k l e. omega arith) p.even a);
-        odd =
-            set_grows (set next (2 * j) x) (λ k. 2 * k + 1) (λ k. min (get_or zero (k + 32) 0) (get_or one (k + 32) 0)) j y (omega (arith, p.sized, length-set next (2 * j) x)) (λ k l e. omega arith)
-            (set_keeps next (λ k. 2 * k + 1) (λ k. min (get_or zero (k + 32) 0) (get_or one (k + 32) 0)) (2 * j) x j (λ k l e. omega arith) p.odd) b;
-      }
-
-  pub chosen_none : {old : List ℕ} (place : ℕ) → Chosen 0 zero one old place old
-  chosen_none place = record { sized = refl; inside = λ p h. absurd (not-suc-le-zero h); below = λ i h. refl; above = λ i h. refl }
-
-  pub chosen_more :
-      {old new : List ℕ} {place : ℕ} (p x : ℕ) → place + p < length old
-      → x ≡ 2 * (get_or new (place + p) 0 % 32768) + bit (chooses zero one p) → Chosen p zero one old place new
-      → Chosen (p + 1) zero one old place (set new (place + p) x)
-  chosen_more {old} {new} {place} p x h a c =
-      record {
-        sized = length-set new (place + p) x ∙ c.sized;
-        inside =
-            set_grows new (λ k. place + k) (λ k. 2 * (get_or old (place + k) 0 % 32768) + bit (chooses zero one k)) p x (omega (arith, c.sized)) (λ k l e. omega arith)
-            c.inside (omega (arith, a, c.above (place + p) (omega arith)));
-        below = λ i l. get_or-set_other new (place + p) i x 0 (λ e. omega arith) ∙ c.below i l;
-        above = λ i l. get_or-set_other new (place + p) i x 0 (λ e. omega arith) ∙ c.above i (omega arith);
-      }
-
-pub lowered_none : {row next : List ℕ} {by : ℕ} → length next ≡ 64 → Lowered 0 row by next
-lowered_none s = record { sized = s; each = λ j h. absurd (not-suc-le-zero h) }
-
-pub lowered_more : {row next : List ℕ} {by : ℕ} (j : ℕ) → j < 64 → Lowered j row by next → Lowered (j + 1) row by (set next j (get_or row j 0 - by))
-lowered_more {row} {next} {by} j h p =
-    record {
-      sized = length-set next j _ ∙ p.sized;
-      each = set_grows next (λ k. k) (λ k. get_or row k 0 - by) j _ (omega (arith, p.sized)) (λ k l e. omega arith) p.each refl;
-    }

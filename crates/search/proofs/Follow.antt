@@ -6,8 +6,8 @@ use mathlib.Core.Path.{◌≡◌, refl, sym, ap, ◌∙◌}
 use Prim.Native.Nat.{ℕ, zero, suc, ◌+◌, ◌-◌, ◌*◌, ◌≤◌, ◌<◌}
 use native.Mathlib.Numerals.{add-one}
 use native.Mathlib.Omega.{arith}
-use lib.ListN.{length, set, take, drop, length-set, take-append-drop}
-use lib.Seq.{drop-drop, drop-set-lt, take-suc-set}
+use lib.ListN.{length, set, take, drop}
+use lib.Seq.{drop-drop, take_all, take-suc-set}
 use Rattle.bits.specs.Bits.{bit, is_one}
 use Rattle.bits.proofs.Bits.{is_one-bit, bit-is_one}
 use Rattle.coder.specs.Coder.{uplink_words}
@@ -63,41 +63,21 @@ module _ {values kept : List ℕ} {n total : ℕ} (f : Filled values n kept tota
       record { string = e ∙ ap (λ (x : List Bool). map bit x ++ drop n before) (follow-nearest l); costs = f.costs }
 
 -- the loop that goes forward: the bits of the moments before t are written, and what is still to come from this place is the rest of the whole
-pub record Walking (kept : List ℕ) (n : ℕ) (before : List ℕ) (t place : ℕ) (bits : List ℕ) : Type 0 where
+pub record Walking (kept : List ℕ) (n t place : ℕ) (bits : List ℕ) : Type 0 where
   pub within : place < 64
-  pub sized : length bits ≡ length before
   pub whole : (k : ℕ) → k + t ≡ n → take t bits ++ map bit (follow kept k t place) ≡ map bit (follow kept n 0 0)
-  pub rest : drop n bits ≡ drop n before
-
-pub walking_start : (kept : List ℕ) (n : ℕ) (bits : List ℕ) → Walking kept n bits 0 0 bits
-walking_start kept n bits =
-    record {
-      within = omega arith;
-      sized = refl;
-      whole = λ k e. start k (omega arith);
-      rest = refl;
-    }
-  where
-    start : (k : ℕ) → k ≡ n → map bit (follow kept k 0 0) ≡ map bit (follow kept n 0 0)
-    start k e = ap (λ (q : ℕ). map bit (follow kept q 0 0)) e
 
 pub walking_step :
-    {kept before bits : List ℕ} {n t p : ℕ} → Walking kept n before t p bits → t < n → n ≤ length before
-    → Walking kept n before (t + 1) (place_after p (kept_at kept t p)) (set bits t (kept_at kept t p))
+    {kept bits : List ℕ} {n t p : ℕ} → Walking kept n t p bits → t < length bits
+    → Walking kept n (t + 1) (place_after p (kept_at kept t p)) (set bits t (kept_at kept t p))
 unfolding follow
-walking_step {kept} {before} {bits} {n} {t} {p} w h l =
-    record {
-      within = omega arith;
-      sized = length-set bits t (kept_at kept t p) ∙ w.sized;
-      whole = λ k e. onward k e;
-      rest = drop-set-lt n bits t (kept_at kept t p) h ∙ w.rest;
-    }
+walking_step {kept} {bits} {n} {t} {p} w h = record { within = omega arith; whole = λ k e. onward k e }
   where
     v : ℕ
     v = kept_at kept t p
 
     written : take (t + 1) (set bits t v) ≡ take t bits ++ (v ∷ [])
-    written = ap (λ (q : ℕ). take q (set bits t v)) (add-one t) ∙ take-suc-set bits t v (omega (arith, w.sized))
+    written = ap (λ (q : ℕ). take q (set bits t v)) (add-one t) ∙ take-suc-set bits t v h
 
     onward : (k : ℕ) → k + (t + 1) ≡ n → take (t + 1) (set bits t v) ++ map bit (follow kept k (t + 1) (place_after p v)) ≡ map bit (follow kept n 0 0)
     onward k e =
@@ -106,9 +86,8 @@ walking_step {kept} {before} {bits} {n} {t} {p} w h l =
         ∙ ap (λ (q : ℕ). take t bits ++ (q ∷ map bit (follow kept k (t + 1) (place_after p v)))) (sym (bit-is_one v (omega arith)))
         ∙ w.whole (suc k) (omega arith)
 
-pub walking_end : {kept before bits : List ℕ} {n t p : ℕ} → Walking kept n before t p bits → t ≡ n → bits ≡ map bit (follow kept n 0 0) ++ drop n before
+pub walking_end :
+    {kept bits : List ℕ} {t p : ℕ} → Walking kept (length bits) t p bits → t ≡ length bits
+    → bits ≡ map bit (follow kept (length bits) 0 0)
 unfolding follow
-walking_end {kept} {before} {bits} {n} {t} {p} w e =
-    sym (take-append-drop n bits)
-    ∙ ap (λ (q : List ℕ). q ++ drop n bits) (ap (λ (q : ℕ). take q bits) (sym e) ∙ sym (append-nil (take t bits)) ∙ w.whole 0 (omega arith))
-    ∙ ap (λ (q : List ℕ). map bit (follow kept n 0 0) ++ q) w.rest
+walking_end {bits = bits} w e = sym (take_all _ bits (omega arith)) ∙ sym (append-nil _) ∙ w.whole 0 (omega arith)

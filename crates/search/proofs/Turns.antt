@@ -1,14 +1,17 @@
--- The four functions of a step make one step back in time; a row is lowered without a change of what it says.
--- Assumes nothing.
-use mathlib.Core.List.{List, [], ◌∷◌}
-use mathlib.Core.Path.{◌≡◌, refl, subst}
+-- The four functions of a step make one step back in time, whose words may be lent from a place on. Assumes nothing.
+use mathlib.Core.List.{List, [], ◌∷◌, ◌++◌}
+use mathlib.Core.Path.{◌≡◌, sym, ap, subst, ◌∙◌}
 use Prim.Native.Nat.{ℕ, ◌+◌, ◌-◌, ◌*◌, ◌/◌, ◌%◌, ◌≤◌, ◌<◌}
 use native.Mathlib.Decide.{dec_lt}
+use native.Mathlib.Nat.{zero-add}
 use native.Mathlib.Omega.{arith}
-use lib.ListN.{length, get_or}
-use Rattle.rows.specs.Rows.{Weighs, Summed, Least, Chosen, Lowered}
+use lib.ListN.{length, get_or, take, drop, length-append, length-drop, get_or-append}
+use lib.Seq.{get_or-append-add, get_or-append_right, get_or-take, get_or-drop, length-take-le}
+use Rattle.bits.specs.Bits.{bit}
+use Rattle.rows.specs.Rows.{Weighs, Summed, Least, Chosen}
+use Rattle.rows.specs.Remaining.{Costs, taken}
 use Rattle.rows.proofs.Step.{costs_step, chosen_step}
-use Rattle.search.specs.Search.{Turn, Spread, Leveled}
+use Rattle.search.specs.Search.{Turn}
 
 module _ {a b c all place : ℕ} {row kept pairs zero one row' kept' : List ℕ}
     (w : Weighs (a ∷ b ∷ c ∷ []) pairs all) (m : Summed row pairs all zero one) (l : Least 32 zero one row') (g : Chosen 64 zero one kept place kept') where
@@ -36,16 +39,52 @@ module _ {a b c all place : ℕ} {row kept pairs zero one row' kept' : List ℕ}
         rise = λ most u s h. rise_each most s h (u (s / 2) (omega arith)) (dec_lt (s % 2) 1);
       }
 
--- a row that is left as it is
-pub leveled_same : {row : List ℕ} {off t : ℕ} → length row ≡ 64 → (t % 64 ≡ 0 → ⊥) → Leveled row off t row off
-leveled_same s h = record { sized = s; same = λ i l. refl; between = λ d i l. refl; lowered = λ e i l. absurd (h e) }
+-- a turn whose words are lent from a place on, as one on all the words
+module _ {a b c : ℕ} {row row' part : List ℕ} (kept : List ℕ) (place : ℕ) (room : place + 64 ≤ length kept)
+    (turn : Turn a b c row (take (place + 64 - place) (drop place kept)) 0 row' part) where
+  abbrev rest : List ℕ
+  rest = drop (place + 64 - place) (drop place kept)
 
--- a row lowered by its first cost less 2,304
-pub leveled_lower : {row row' : List ℕ} {off t by : ℕ} → Spread row off → by ≡ get_or row 0 0 - 2304 → t % 64 ≡ 0 → Lowered 64 row by row' → Leveled row off t row' (off + by)
-leveled_lower {row} {row'} {off} p e z l =
-    record {
-      sized = l.sized;
-      same = λ s h. omega (arith, l.each s h, p.lowest s h);
-      between = λ d s h. absurd (d z);
-      lowered = λ z s h. omega (arith, l.each s h, p.lowest s h);
-    }
+  abbrev whole : List ℕ
+  whole = take place kept ++ (part ++ rest)
+
+  front : length (take place kept) ≡ place
+  front = length-take-le place kept (omega arith)
+
+  lent : length part ≡ 64
+  lent = turn.sized ∙ length-take-le (place + 64 - place) (drop place kept) (rw length-drop (omega arith)) ∙ omega arith
+
+  inside : (p : ℕ) → p < 64 → get_or whole (place + p) 0 ≡ get_or part p 0
+  inside p h =
+      ap (λ (q : ℕ). get_or whole (q + p) 0) (sym front)
+      ∙ get_or-append-add (take place kept) (part ++ rest) p 0
+      ∙ get_or-append part rest 0 p (omega (arith, lent))
+
+  before : (p : ℕ) → p < 64 → get_or (take (place + 64 - place) (drop place kept)) p 0 ≡ get_or kept (place + p) 0
+  before p h = get_or-take (place + 64 - place) (drop place kept) p 0 (omega arith) ∙ get_or-drop place kept p 0
+
+  beyond : (i : ℕ) → place + 64 ≤ i → get_or whole i 0 ≡ get_or kept i 0
+  beyond i h =
+      get_or-append_right (take place kept) (part ++ rest) i 0 (omega (arith, front))
+      ∙ get_or-append_right part rest (i - length (take place kept)) 0 (omega (arith, front, lent))
+      ∙ get_or-drop (place + 64 - place) (drop place kept) (i - length (take place kept) - length part) 0
+      ∙ get_or-drop place kept (place + 64 - place + (i - length (take place kept) - length part)) 0
+      ∙ ap (λ (q : ℕ). get_or kept q 0) (omega (arith, front, lent))
+
+  pub turn_lent : Turn a b c row kept place row' whole
+  turn_lent =
+      record {
+        costs = turn.costs;
+        chosen = λ after k off costs p h. chosen after k off costs p h;
+        sized = rw (length-append, length-append, front, lent, length-drop, length-drop) (omega arith);
+        above = beyond;
+        rise = turn.rise;
+      }
+    where
+      chosen :
+          (after : List ℕ) (k off : ℕ) → Costs after k row off → (p : ℕ) → p < 64
+          → get_or whole (place + p) 0 ≡ 2 * (get_or kept (place + p) 0 % 32768) + bit (taken (a ∷ b ∷ c ∷ after) k p)
+      chosen after k off costs p h =
+          inside p h
+          ∙ rw zero-add at (turn.chosen after k off costs p h)
+          ∙ ap (λ (q : ℕ). 2 * (q % 32768) + bit (taken (a ∷ b ∷ c ∷ after) k p)) (before p h)

@@ -1,5 +1,6 @@
 // The search: of all strings of n bits the nearest to the values heard, and what it costs.
-// Rows of 64 remaining costs go backward in time, one decision a state and step is kept, and a walk goes forward through the decisions.
+// Rows of 64 remaining costs go backward in time, one decision a state and step is kept, and a walk goes forward
+// through the decisions.
 #![tactic(auto)]
 
 ghost use Rattle.std.specs.Prelude.{Bool, map, ◌++◌, ◌≡◌, ◌+◌, ◌-◌, ◌*◌, ◌≤◌, length, drop};
@@ -7,23 +8,19 @@ ghost use Rattle.bits.specs.Bits.{bit};
 ghost use Rattle.rows.specs.Rows.{Low};
 ghost use Rattle.search.specs.Search.{Turn, Spread, Leveled, Heard, Filled, Kept, last_row, follow, Found};
 
-// One step back in time, against the three values of the step: the row before it; the decisions go into the 64 words from a place on.
-fn turn(row: [u16; 64], a: u8, b: u8, c: u8, kept: &mut [u16], place: usize) -> [u16; 64]
+// The words of the decisions: 64 for each sixteen moments, of which there are at most 2,072.
+const KEPT: usize = 8320;
+
+// One step back in time, against the three values of the step: the row before it; the decisions go into the 64 words.
+fn turn(row: [u16; 64], a: u8, b: u8, c: u8, kept: &mut [u16]) -> [u16; 64]
     requires low { Low row }
-    requires place_in_bounds { place + 64 ≤ length kept.old }
-    ensures { Turn a b c row kept.old place result kept.new }
+    requires sized { length kept.old ≡ 64 }
+    ensures { Turn a b c row kept.old 0 result kept.new }
 {
     let weighed = step::weigh(a, b, c);
     let moves = step::sums(row, weighed);
-    step::choices(moves, kept, place);
+    step::choices(moves, kept);
     step::minima(moves)
-}
-
-// How much can be taken off every cost of a row whose first is given.
-fn spare(first: u16) -> u16
-    ensures { result ≡ first - 2304 }
-{
-    if first < 2304 { 0 } else { first - 2304 }
 }
 
 // A row and what was taken off its costs.
@@ -41,13 +38,10 @@ fn leveled(row: [u16; 64], off: u32, t: usize) -> Level
     if t % 64 != 0 {
         return Level { row, off };
     }
-    let first = row[0];
-    let by = spare(first);
-    let next = step::lowered(row, by);
-    let total = off + (by as u32);
+    let by = row[0].saturating_sub(2304);
     Level {
-        row: next,
-        off: total,
+        row: step::lowered(row, by),
+        off: off + u32::from(by),
     }
 }
 
@@ -60,57 +54,54 @@ fn last_row() -> [u16; 64]
     row
 }
 
-// Keeps every decision of n steps and the six that follow, sixteen moments in a word, and gives the cost of the nearest string.
-fn fill(values: &[u8], n: usize, kept: &mut [u16]) -> u32
-    requires heard { Heard values.now n }
-    requires kept_len { length kept.old ≡ 8320 }
+// Keeps every decision of n steps and the six that follow, sixteen moments in a word, and gives the cost of the nearest
+// string.
+fn fill(values: &[u8], n: usize, kept: &mut [u16; KEPT]) -> u32
+    requires { Heard values.now n }
     ensures { Filled values.now n kept.new result }
 {
-    let mut row = last_row();
-    let mut off: u32 = 0;
-    let mut t = n + 6;
-    while 0 < t {
-        t -= 1;
+    let mut level = Level {
+        row: last_row(),
+        off: 0,
+    };
+    for t in (0..n + 6).rev() {
+        let at = t / 16 * 64;
         let least = turn(
-            row,
+            level.row,
             values[3 * t],
             values[3 * t + 1],
             values[3 * t + 2],
-            kept,
-            t / 16 * 64,
+            &mut kept[at..at + 64],
         );
-        let level = leveled(least, off, t);
-        let low = level.row;
-        row = low;
-        off = level.off;
+        level = leveled(least, level.off, t);
     }
-    (row[0] as u32) + off
+    u32::from(level.row[0]) + level.off
 }
 
-// Walks forward through the decisions from state 0 and writes the n bits that are taken. A place is where a state's decision stands.
-fn walk(kept: &[u16], n: usize, bits: &mut [u8])
-    requires { Kept kept.now n bits.old }
-    ensures { bits.new ≡ map bit (follow kept.now n 0 0) ++ drop n bits.old }
+// Walks forward through the decisions from state 0 and writes the bits that are taken. A place is where a state's
+// decision stands.
+fn walk(kept: &[u16; KEPT], bits: &mut [u8])
+    requires { Kept kept.now (length bits.old) bits.old }
+    ensures { bits.new ≡ map bit (follow kept.now (length bits.old) 0 0) }
 {
     let mut place = 0;
-    let mut t = 0;
-    while t < n {
+    for (t, bit) in bits.iter_mut().enumerate() {
         let word = kept[t / 16 * 64 + place];
         let b = (word >> (t % 16)) % 2;
-        bits[t] = b as u8;
+        *bit = b as u8;
         place = place % 32 % 2 * 32 + place % 32 / 2 + (b as usize) * 16;
-        t += 1;
     }
 }
 
-// The nearest string of n bits to the values of its coded bits, as the coder took it, one byte a bit, and its cost. Bytes of bits from n on are kept.
+// The nearest string of n bits to the values of its coded bits, as the coder took it, one byte a bit, and its cost.
+// Bytes of bits from n on are kept.
 pub fn search(values: &[u8], n: usize, bits: &mut [u8]) -> u32
     requires heard { Heard values.now n }
     requires n_in_bounds { n ≤ length bits.old }
     ensures { Found values.now n bits.old bits.new result }
 {
-    let mut kept = [0u16; 8320];
+    let mut kept = [0u16; KEPT];
     let cost = fill(values, n, &mut kept);
-    walk(&kept, n, bits);
+    walk(&kept, &mut bits[..n]);
     cost
 }

@@ -19,7 +19,10 @@ use Rattle.interleave.specs.Bursts.{Bursts}
 use Rattle.payload.specs.Payload.{payload, payload_bits}
 use Rattle.payload.proofs.Payload.{length-payload}
 use Rattle.placing.specs.Placing.{Framed}
-use Rattle.uplink.specs.declared.Built.TheVariants as Built-is
+use Rattle.std.specs.Prelude.{Ok, Err}
+use Rattle.refusals.specs.declared.Refusal.{Refusal}
+use Rattle.refusals.specs.Refusals.{number}
+use Rattle.refusals.proofs.Refusals.{number_not_zero}
 use Rattle.uplink.specs.Frame.{coded_payload}
 use Rattle.uplink.specs.Build.{frame_size, build_refusal, Builds}
 use Rattle.uplink.specs.Parts.{Put}
@@ -79,18 +82,19 @@ module _ (message : List ℕ) (mode : ℕ) (told : Length (length message)) wher
       framed = rw (k ∙ ap (λ (x : List Bool). map bit (coded uplink_words x) ++ drop (3 * (length (take (26 + 8 * length message) (part ++ drop (26 + 8 * length message) bits)) + 6)) coded₀) sent) at f.frame
 
 module _ {l mode : ℕ} {message before : List ℕ} where
-  pub builds_refused : {r : ℕ} → r ≡ build_refusal l mode (length message) (length before) → (r ≡ 0 → ⊥) → Builds l mode message before before (Built-is.Refused r)
-  builds_refused {r} e d =
+  pub builds_refused : (r : Refusal) → number r ≡ build_refusal l mode (length message) (length before) → Builds l mode message before before (Err r)
+  builds_refused r e =
+      let d : build_refusal l mode (length message) (length before) ≡ 0 → ⊥ = λ z. number_not_zero r (e ∙ z) in
       record {
         refusal = e;
-        size = sym (ap (λ (t : Bool). cond t (frame_size l) 0) (ne_eqb (build_refusal l mode (length message) (length before)) 0 (λ z. d (e ∙ z))));
+        size = sym (ap (λ (t : Bool). cond t (frame_size l) 0) (ne_eqb (build_refusal l mode (length message) (length before)) 0 d));
         sized = refl;
-        frame = λ z. absurd (d (e ∙ z));
+        frame = λ z. absurd (d z);
         rest = λ z. refl;
         kept = λ z. refl;
       }
 
-  pub builds_done : {after : List ℕ} → build_refusal l mode (length message) (length before) ≡ 0 → Put message mode before after → Builds l mode message before after (Built-is.Done (36 * (l + 4)))
+  pub builds_done : {after : List ℕ} → build_refusal l mode (length message) (length before) ≡ 0 → Put message mode before after → Builds l mode message before after (Ok (36 * (l + 4)))
   builds_done {after} z p =
       let same : length message ≡ l = (build_taken l mode (length message) (length before) z).sized in
       record {

@@ -16,8 +16,7 @@ use Rattle.interleave.specs.Bursts.{received}
 use Rattle.payload.specs.Payload.{payload_bits}
 use Rattle.payload.specs.Open.{message_of, mode_of}
 use Rattle.payload.proofs.RoundTrip as Trip
-use Rattle.uplink.specs.declared.Recovered.{Recovered}
-use Rattle.uplink.specs.Answers.{recovered_mode, recovered_cost}
+use Rattle.uplink.specs.Answers.{Recovery, recovered_mode, recovered_cost}
 use Rattle.uplink.specs.Recover.{nearest_string, opened, recover_refusal, Recovers}
 use Rattle.uplink.specs.Demands.{FirstBuild, FirstRecover, Formed, Demand1, Sendable, Returned, Demand2, Behind, Demand3}
 use Rattle.uplink.proofs.Refusals.{build_done, build_first, recover_first}
@@ -33,7 +32,7 @@ demand_1 =
       recover_keeps = λ {l} {marks} {values} {before} p d. p.message ∙ rw (ne_eqb (recover_refusal l marks values (length before)) 0 (λ e. d (p.refusal ∙ e)));
     }
 
-module _ {l : ℕ} {marks values before after : List ℕ} {answer : Recovered} (p : Recovers l marks values before after answer) (z : recover_refusal l marks values (length before) ≡ 0) where
+module _ {l : ℕ} {marks values before after : List ℕ} {answer : Recovery} (p : Recovers l marks values before after answer) (z : recover_refusal l marks values (length before) ≡ 0) where
   -- what a call that is not refused answers and writes
   done_mode : recovered_mode answer ≡ mode_of l (opened l marks values)
   done_mode = p.mode ∙ rw (eq-eqb (recover_refusal l marks values (length before)) 0 z)
@@ -67,7 +66,7 @@ module _ {l : ℕ} {marks values before after : List ℕ} {answer : Recovered} (
       written : take l after ≡ message_of l (opened l marks values)
       written = ap (take l) done_message ∙ take_at (message_of l (opened l marks values)) (drop l before) l held.sized
 
-module _ {message : List ℕ} {mode : ℕ} {marks values before after : List ℕ} {answer : Recovered} (s : Sendable message mode) (f : Formed (length message) marks values (length before)) where
+module _ {message : List ℕ} {mode : ℕ} {marks values before after : List ℕ} {answer : Recovery} (s : Sendable message mode) (f : Formed (length message) marks values (length before)) where
   -- a call that is not refused and opens to a message and mode returns them
   returned_of :
       recover_refusal (length message) marks values (length before) ≡ 0

@@ -1,41 +1,15 @@
--- Marks, zeros and silence, one more element at a time; and what the judging functions say, from what they found.
+-- Silence, one more sub-packet at a time.
 -- Assumes nothing.
 use mathlib.Core.Bool.{Bool, true, false, not, ◌||◌}
 use mathlib.Core.List.{List}
 use mathlib.Core.Path.{◌≡◌, sym, ap, ◌∙◌}
-use Prim.Native.Nat.{ℕ, suc, ◌+◌, ◌*◌, ◌≤◌, ◌<◌}
+use Prim.Native.Nat.{ℕ, suc, ◌+◌, ◌*◌, ◌<◌}
 use native.Mathlib.Numerals.{add-one}
 use native.Mathlib.Omega.{arith}
-use borrow.Author.Tests.{le-leb, lt-leb, eq-eqb, ne_eqb}
 use lib.Dec.{eqb}
 use lib.ListN.{length, get_or, take, drop}
 use lib.Seq.{drop-cons, drop-length, drop-drop}
-use Rattle.uplink.specs.Recover.{marks_good, zeros, silent}
-
--- all that a loop over marks has still to see decides
-pub marks_good_more : (marks : List ℕ) (i : ℕ) → i < length marks → get_or marks i 0 ≤ 1 → marks_good (drop i marks) ≡ marks_good (drop (i + 1) marks)
-unfolding marks_good
-marks_good_more marks i h l = rw (add-one i, drop-cons marks i 0 h, le-leb (get_or marks i 0) 1 l)
-
-pub marks_good_bad : (marks : List ℕ) (i : ℕ) → i < length marks → 1 < get_or marks i 0 → marks_good (drop i marks) ≡ false
-unfolding marks_good
-marks_good_bad marks i h l = rw (drop-cons marks i 0 h, lt-leb (get_or marks i 0) 1 l)
-
-pub marks_good_end : (marks : List ℕ) (i : ℕ) → i ≡ length marks → marks_good (drop i marks) ≡ true
-unfolding marks_good
-marks_good_end marks i e = rw (e, drop-length marks)
-
-pub zeros_more : (vs : List ℕ) (i : ℕ) → i < length vs → get_or vs i 0 ≡ 0 → zeros (drop i vs) ≡ zeros (drop (i + 1) vs)
-unfolding zeros
-zeros_more vs i h l = rw (add-one i, drop-cons vs i 0 h, eq-eqb (get_or vs i 0) 0 l)
-
-pub zeros_bad : (vs : List ℕ) (i : ℕ) → i < length vs → (get_or vs i 0 ≡ 0 → ⊥) → zeros (drop i vs) ≡ false
-unfolding zeros
-zeros_bad vs i h l = rw (drop-cons vs i 0 h, ne_eqb (get_or vs i 0) 0 l)
-
-pub zeros_end : (vs : List ℕ) (i : ℕ) → i ≡ length vs → zeros (drop i vs) ≡ true
-unfolding zeros
-zeros_end vs i e = rw (e, drop-length vs)
+use Rattle.uplink.specs.Recover.{zeros, silent}
 
 -- the values from sub-packet s + 1 on
 later : (values : List ℕ) (s : ℕ) → drop 24 (drop (24 * s) values) ≡ drop (24 * (s + 1)) values

@@ -7,8 +7,8 @@ pub mod Demands
 pub mod Unique
 pub mod Lost
 pub mod Judged
-pub mod Forms
 pub mod Building
 pub mod Recovering
 pub mod Clean
 pub mod ShutOut
+pub mod Forms

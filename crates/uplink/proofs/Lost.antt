@@ -14,9 +14,9 @@ use Rattle.interleave.specs.Interleave.{coded_bits, packet_of, symbol_of, Length
 use Rattle.lists.proofs.Lists.{firsts_same}
 use Rattle.interleave.specs.Bursts.{value_of, heard, received}
 use Rattle.interleave.proofs.Placed.{placed_here, placed_data}
+use Rattle.uplink.specs.Answers.{Recovery}
 use Rattle.uplink.specs.Recover.{zeros, silent, opened, nearest_cost, recover_refusal, Recovers}
 use Rattle.uplink.specs.Demands.{Alike}
-use Rattle.uplink.specs.declared.Recovered.{Recovered}
 use Rattle.uplink.proofs.Silence.{value_of_below}
 use Rattle.uplink.proofs.Refusals.{recover_short, recover_long}
 use Rattle.coder.specs.Coder.{uplink_words}
@@ -78,7 +78,7 @@ module _ {l : ℕ} {marks values others : List ℕ} (a : Alike marks values othe
   refusal_alike h room = rw (a.sized, silent_alike marks values others a, opened_alike h)
 
   -- what answers the one call answers the other
-  recovers_told : Length l → {before after : List ℕ} {answer : Recovered} → Recovers l marks others before after answer → Recovers l marks values before after answer
+  recovers_told : Length l → {before after : List ℕ} {answer : Recovery} → Recovers l marks others before after answer → Recovers l marks values before after answer
   recovers_told h {before} p =
       let e = refusal_alike h (length before) in
       record {
@@ -90,7 +90,7 @@ module _ {l : ℕ} {marks values others : List ℕ} (a : Alike marks values othe
       }
 
   -- a wrong length is refused alike
-  recovers_wrong : ((vs : List ℕ) (room : ℕ) → recover_refusal l marks vs room ≡ 1) → {before after : List ℕ} {answer : Recovered} → Recovers l marks others before after answer → Recovers l marks values before after answer
+  recovers_wrong : ((vs : List ℕ) (room : ℕ) → recover_refusal l marks vs room ≡ 1) → {before after : List ℕ} {answer : Recovery} → Recovers l marks others before after answer → Recovers l marks values before after answer
   recovers_wrong one {before} p =
       record {
         refusal = p.refusal ∙ one others (length before) ∙ sym (one values (length before));
@@ -100,7 +100,7 @@ module _ {l : ℕ} {marks values others : List ℕ} (a : Alike marks values othe
         message = p.message ∙ rw (one others (length before), one values (length before));
       }
 
-  pub recovers_alike : {before after : List ℕ} {answer : Recovered} → Recovers l marks others before after answer → Recovers l marks values before after answer
+  pub recovers_alike : {before after : List ℕ} {answer : Recovery} → Recovers l marks others before after answer → Recovers l marks values before after answer
   recovers_alike {before} {after} {answer} p = go (dec_lt l 20) (dec_lt 255 l)
     where
       go : Dec (l < 20) → Dec (255 < l) → Recovers l marks values before after answer

@@ -23,12 +23,14 @@ use Rattle.interleave.proofs.Bursts.{length-received}
 use Rattle.payload.specs.Payload.{payload_bits}
 use Rattle.payload.specs.Open.{open_refusal, message_of, mode_of}
 use Rattle.payload.specs.Calls.{Opening}
-use Rattle.payload.specs.declared.Opened.TheVariants as Opened-is
+use Rattle.std.specs.Prelude.{Ok, Err}
+use Rattle.refusals.specs.declared.Refusal.{Refusal}
+use Rattle.refusals.specs.Refusals.{number}
+use Rattle.refusals.proofs.Refusals.{number_not_zero}
 use Rattle.search.specs.Search.{Found}
-use Rattle.uplink.specs.declared.Recovered.TheVariants as Recovered-is
 use Rattle.uplink.specs.Recover.{silent, nearest_string, nearest_cost, opened, recover_refusal, Recovers}
 use Rattle.uplink.specs.Demands.{Formed}
-use Rattle.uplink.specs.Parts.{FormJudged, Nearing}
+use Rattle.uplink.specs.Parts.{Nearing}
 use Rattle.uplink.proofs.Refusals.{recover_opening}
 use Rattle.uplink.proofs.Building.{front_bits}
 
@@ -85,17 +87,17 @@ pub map-bit_binary : (xs : List Bool) (i : ℕ) → i < length (map bit xs) → 
 map-bit_binary xs i h = subst (λ (v : ℕ). v < 2) (sym (get_or-map bit xs i false)) (bit_below_two (get_or xs i false))
 
 module _ {l : ℕ} {marks values : List ℕ} (before : List ℕ) where
-  pub recovers_form : {r : ℕ} → FormJudged l marks values (length before) r → (r ≡ 0 → ⊥) → Recovers l marks values before before (Recovered-is.Refused r)
-  recovers_form {r} f d =
-      let e : recover_refusal l marks values (length before) ≡ r = f.refused d in
-      let n : eqb (recover_refusal l marks values (length before)) 0 ≡ false = ne_eqb (recover_refusal l marks values (length before)) 0 (λ z. d (sym e ∙ z)) in
+  pub recovers_form : (r : Refusal) → recover_refusal l marks values (length before) ≡ number r → Recovers l marks values before before (Err r)
+  recovers_form r e =
+      let n : eqb (recover_refusal l marks values (length before)) 0 ≡ false = ne_eqb (recover_refusal l marks values (length before)) 0 (λ z. number_not_zero r (sym e ∙ z)) in
       record { refusal = sym e; told = rw n; mode = rw n; weight = rw n; message = rw n }
 
   module _ (f : Formed l marks values (length before)) (s : silent marks values ≡ false) {bits₀ bits : List ℕ} {total : ℕ} (p : Nearing l marks values bits₀ bits total) where
     opens_as : recover_refusal l marks values (length before) ≡ open_refusal l (map is_one (take (26 + 8 * l) bits))
     opens_as = recover_opening l marks values (length before) f s ∙ ap (open_refusal l) (sym (nearing_bits l marks values p))
 
-    pub recovers_done : {after : List ℕ} {m : ℕ} → Opening l (take (26 + 8 * l) bits) before after (Opened-is.Done m) → Recovers l marks values before after (Recovered-is.Done l m total)
+    pub recovers_done : {after : List ℕ} {m : ℕ} → Opening l (take (26 + 8 * l) bits) before after (Ok m)
+        → Recovers l marks values before after (Ok (record { length = l; mode = m; cost = total }))
     recovers_done {m = m} o =
         let z : open_refusal l (map is_one (take (26 + 8 * l) bits)) ≡ 0 = sym o.number in
         let n : eqb (recover_refusal l marks values (length before)) 0 ≡ true = eq-eqb (recover_refusal l marks values (length before)) 0 (opens_as ∙ z) in
@@ -107,8 +109,9 @@ module _ {l : ℕ} {marks values : List ℕ} (before : List ℕ) where
           message = rw n (o.message z ∙ ap (λ (x : List Bool). message_of l x ++ drop l before) (nearing_bits l marks values p));
         }
 
-    pub recovers_failed : {after : List ℕ} {k : ℕ} → (k ≡ 0 → ⊥) → Opening l (take (26 + 8 * l) bits) before after (Opened-is.Refused k) → Recovers l marks values before after (Recovered-is.Refused k)
-    recovers_failed {k = k} d o =
+    pub recovers_failed : {after : List ℕ} (r : Refusal) → Opening l (take (26 + 8 * l) bits) before after (Err r) → Recovers l marks values before after (Err r)
+    recovers_failed r o =
+        let d = number_not_zero r in
         let n : eqb (recover_refusal l marks values (length before)) 0 ≡ false = ne_eqb (recover_refusal l marks values (length before)) 0 (λ z. d (o.number ∙ sym opens_as ∙ z)) in
         record {
           refusal = o.number ∙ sym opens_as;
@@ -117,10 +120,3 @@ module _ {l : ℕ} {marks values : List ℕ} (before : List ℕ) where
           weight = rw n;
           message = rw n (o.kept (λ z. d (o.number ∙ z)));
         }
-
-    -- an answer of refusal 0 is no refusal
-    pub refused_not_zero : {after : List ℕ} {k : ℕ} → Opening l (take (26 + 8 * l) bits) before after (Opened-is.Refused k) → k ≡ 0 → ⊥
-    refused_not_zero {k = k} o e =
-        let d : Opened-is.Refused k ≡ Opened-is.Done 0 = o.done (sym o.number ∙ e) in
-        let z : ◌≡◌ {A = ℕ} 0 1 = cc in
-        omega arith

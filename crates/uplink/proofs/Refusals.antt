@@ -2,17 +2,21 @@
 -- Assumes nothing.
 use mathlib.Core.Bool.{Bool, true, false, cond, ◌&&◌}
 use mathlib.Core.List.{List}
-use mathlib.Core.Path.{◌≡◌, refl, ◌∙◌}
+use mathlib.Core.Path.{◌≡◌, refl, sym, ap, ◌∙◌}
 use Prim.Native.Nat.{ℕ, ◌+◌, ◌*◌, ◌≤◌, ◌<◌}
 use native.Mathlib.Decide.{dec_lt, ℕ_discrete}
 use native.Mathlib.Omega.{arith}
 use borrow.Author.Tests.{lt-ltb, le-ltb, eq-eqb, ne_eqb}
 use lib.Dec.{ltb, eqb}
 use lib.ListN.{length}
+use Rattle.refusals.specs.declared.Refusal.{Refusal}
+use Rattle.refusals.specs.Refusals.{number}
+use Rattle.refusals.proofs.Refusals.{number_not_zero}
 use Rattle.interleave.specs.Interleave.{Length}
 use Rattle.payload.specs.Open.{open_refusal}
 use Rattle.uplink.specs.Build.{length_wrong, frame_size, build_refusal}
 use Rattle.uplink.specs.Recover.{marks_good, silent, opened, recover_refusal}
+use Rattle.uplink.specs.Parts.{sizes_refusal}
 use Rattle.uplink.specs.Demands.{FirstBuild, FirstRecover, Formed}
 
 pub length_wrong_short : (l : ℕ) → l < 20 → length_wrong l ≡ true
@@ -24,7 +28,34 @@ length_wrong_long l h = rw (le-ltb l 20 (omega arith), lt-ltb 255 l h)
 pub length_wrong_right : {l : ℕ} → Length l → length_wrong l ≡ false
 length_wrong_right {l} h = rw (le-ltb l 20 h.low, le-ltb 255 l h.high)
 
+-- a told length that is refused is wrong, and one that is not is right
+pub told_wrong : (l : ℕ) (r : Refusal) → number r ≡ cond (length_wrong l) 1 0 → length_wrong l ≡ true
+told_wrong l r = go (length_wrong l)
+  where
+    go : (t : Bool) → number r ≡ cond t 1 0 → t ≡ true
+    go true e = refl
+    go false e = absurd (number_not_zero r e)
+
+pub told_right : {l : ℕ} → ◌≡◌ {A = ℕ} 0 (cond (length_wrong l) 1 0) → Length l
+told_right {l} e = low (dec_lt l 20) (dec_lt 255 l)
+  where
+    go : (t : Bool) → ◌≡◌ {A = ℕ} 0 (cond t 1 0) → t ≡ true → ⊥
+    go true z w = absurd (omega (arith, z))
+    go false z w = absurd (omega (arith, ap (λ (t : Bool). cond {A = ℕ} t 1 0) w))
+
+    wrong : length_wrong l ≡ true → ⊥
+    wrong = go (length_wrong l) e
+
+    low : Dec (l < 20) → Dec (255 < l) → Length l
+    low (yes h) d = absurd (wrong (length_wrong_short l h))
+    low (no h) (yes d) = absurd (wrong (length_wrong_long l d))
+    low (no h) (no d) = record { low = omega arith; high = omega arith }
+
 module _ (l mode size room : ℕ) where
+  pub build_told : (r : Refusal) → number r ≡ cond (length_wrong l) 1 0 → number r ≡ build_refusal l mode size room
+  unfolding build_refusal
+  build_told r e = rw (told_wrong l r e) (e ∙ rw (told_wrong l r e))
+
   pub build_short : l < 20 → build_refusal l mode size room ≡ 1
   unfolding build_refusal
   build_short h = rw (length_wrong_short l h)
@@ -67,7 +98,44 @@ module _ (l mode size room : ℕ) where
       low (no h) (yes d) = rw (build_long d) (FirstBuild.long d)
       low (no h) (no d) = sized (record { low = omega arith; high = omega arith }) (ℕ_discrete size l)
 
+-- sizes: 1 length, 2 marks or values
+module _ (l : ℕ) (marks values : List ℕ) where
+  pub sizes_told : (r : Refusal) → number r ≡ cond (length_wrong l) 1 0 → number r ≡ sizes_refusal l marks values
+  unfolding sizes_refusal
+  sizes_told r e = rw (told_wrong l r e) (e ∙ rw (told_wrong l r e))
+
+  pub sizes_marks : Length l → (length marks ≡ l + 4 → ⊥) → sizes_refusal l marks values ≡ 2
+  unfolding sizes_refusal
+  sizes_marks h s = rw (length_wrong_right h, ne_eqb (length marks) (l + 4) s)
+
+  pub sizes_values : Length l → (length values ≡ 24 * (l + 4) → ⊥) → sizes_refusal l marks values ≡ 2
+  unfolding sizes_refusal
+  sizes_values h s = rw (length_wrong_right h, ne_eqb (length values) (24 * (l + 4)) s) (go (eqb (length marks) (l + 4)))
+    where
+      go : (t : Bool) → cond {A = ℕ} (t && false) 0 2 ≡ 2
+      go true = refl
+      go false = refl
+
+  pub sizes_right : Length l → length marks ≡ l + 4 → length values ≡ 24 * (l + 4) → sizes_refusal l marks values ≡ 0
+  unfolding sizes_refusal
+  sizes_right h m v = rw (length_wrong_right h, eq-eqb (length marks) (l + 4) m, eq-eqb (length values) (24 * (l + 4)) v)
+
+  -- whatever is judged after the sizes, they decide where they are refused
+  pub sizes_first : (rest : ℕ) (r : Refusal) → number r ≡ sizes_refusal l marks values
+      → cond (length_wrong l) 1 (cond (eqb (length marks) (l + 4) && eqb (length values) (24 * (l + 4))) rest 2) ≡ number r
+  unfolding sizes_refusal
+  sizes_first rest r = go (length_wrong l) (eqb (length marks) (l + 4) && eqb (length values) (24 * (l + 4)))
+    where
+      go : (t s : Bool) → number r ≡ cond t 1 (cond s 0 2) → cond t 1 (cond s rest 2) ≡ number r
+      go true s e = sym e
+      go false true e = absurd (number_not_zero r e)
+      go false false e = sym e
+
 module _ (l : ℕ) (marks values : List ℕ) (room : ℕ) where
+  pub recover_sizes : (r : Refusal) → number r ≡ sizes_refusal l marks values → recover_refusal l marks values room ≡ number r
+  unfolding recover_refusal
+  recover_sizes = sizes_first l marks values _
+
   pub recover_short : l < 20 → recover_refusal l marks values room ≡ 1
   unfolding recover_refusal
   recover_short h = rw (length_wrong_short l h)

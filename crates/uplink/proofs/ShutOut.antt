@@ -25,8 +25,7 @@ use Rattle.payload.specs.Payload.{payload, payload_bits}
 use Rattle.payload.specs.Open.{mode_of}
 use Rattle.payload.proofs.Payload.{length-payload}
 use Rattle.payload.proofs.RoundTrip as Trip
-use Rattle.uplink.specs.declared.Recovered.{Recovered}
-use Rattle.uplink.specs.Answers.{built_refusal, recovered_cost}
+use Rattle.uplink.specs.Answers.{Recovery, built_refusal, recovered_cost}
 use Rattle.uplink.specs.Frame.{coded_payload, Frame}
 use Rattle.uplink.specs.Recover.{nearest_string, nearest_cost, recover_refusal, Recovers}
 use Rattle.uplink.specs.Demands.{NoSecond, SoftValues, Sendable, Returned, Builder, Recoverer, ShutOut}
@@ -51,7 +50,7 @@ unfolding against weight
 zero_nothing true = refl
 zero_nothing false = refl
 
-cost_most : {l : ℕ} {marks values before after : List ℕ} {answer : Recovered} → Recovers l marks values before after answer → recovered_cost answer ≤ 795648
+cost_most : {l : ℕ} {marks values before after : List ℕ} {answer : Recovery} → Recovers l marks values before after answer → recovered_cost answer ≤ 795648
 cost_most {l} {marks} {values} {before} {after} {answer} p = go (ℕ_discrete (recover_refusal l marks values (length before)) 0)
   where
     go : Dec (recover_refusal l marks values (length before) ≡ 0) → recovered_cost answer ≤ 795648
@@ -124,7 +123,7 @@ abbrev values : ℕ → List ℕ
 values v = clean_values 20 twenty (coded_payload (equal v) 0)
 
 -- it comes back, whatever recovers it
-comes_back : (v : ℕ) → v < 256 → (before : List ℕ) → 20 ≤ length before → {after : List ℕ} {answer : Recovered} → Recovers 20 (marks v) (values v) before after answer → Returned (equal v) 0 before after answer
+comes_back : (v : ℕ) → v < 256 → (before : List ℕ) → 20 ≤ length before → {after : List ℕ} {answer : Recovery} → Recovers 20 (marks v) (values v) before after answer → Returned (equal v) 0 before after answer
 comes_back v h before r p =
     demand_2.comes_back (equal_sendable v 0 h (omega arith)) (clean_formed 20 twenty (coded_payload (equal v) 0) (length before) r) (clean_right 20 twenty (coded_payload (equal v) 0)) p
 

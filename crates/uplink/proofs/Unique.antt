@@ -10,21 +10,13 @@ use borrow.Author.Tests.{eq-eqb}
 use lib.ListN.{length, take-append-drop}
 use Rattle.interleave.specs.Interleave.{Length}
 use Rattle.interleave.proofs.Bursts.{bursts_unique}
-use Rattle.uplink.specs.declared.Built.{Built}
-use Rattle.uplink.specs.declared.Built.TheVariants as Built-is
+use Rattle.std.specs.Prelude.{Ok, Err}
+use Rattle.refusals.proofs.Refusals.{number_injective, same_answer}
 use Rattle.uplink.specs.declared.Recovered.{Recovered}
-use Rattle.uplink.specs.declared.Recovered.TheVariants as Recovered-is
-use Rattle.uplink.specs.Answers.{built_refusal, built_size, recovered_refusal, recovered_length, recovered_mode, recovered_cost}
+use Rattle.uplink.specs.Answers.{Built, Recovery, built_refusal, built_size, recovered_refusal, recovered_length, recovered_mode, recovered_cost}
 use Rattle.uplink.specs.Build.{frame_size, build_refusal, Builds}
 use Rattle.uplink.specs.Recover.{recover_refusal, Recovers}
 use Rattle.uplink.proofs.Taken.{BuildTaken, build_taken, recover_taken}
-
--- an answer of building is told by its refusal and its size, where a size goes with refusal 0 alone
-built_same : (a b : Built) → built_refusal a ≡ built_refusal b → built_size a ≡ built_size b → (built_refusal a ≡ 0 → 0 < built_size a) → a ≡ b
-built_same (Built-is.Done x) (Built-is.Done y) r s z = ap Built-is.Done s
-built_same (Built-is.Refused x) (Built-is.Refused y) r s z = ap Built-is.Refused r
-built_same (Built-is.Done x) (Built-is.Refused y) r s z = absurd (omega (arith, z refl))
-built_same (Built-is.Refused x) (Built-is.Done y) r s z = absurd (omega (arith, z r))
 
 module _ {l mode : ℕ} {message before after after' : List ℕ} {answer answer' : Built}
     (p : Builds l mode message before after answer) (q : Builds l mode message before after' answer') where
@@ -32,7 +24,7 @@ module _ {l mode : ℕ} {message before after after' : List ℕ} {answer answer'
   number = build_refusal l mode (length message) (length before)
 
   pub built_answer_unique : answer ≡ answer'
-  built_answer_unique = built_same answer answer' (p.refusal ∙ sym q.refusal) (p.size ∙ sym q.size) sizes
+  built_answer_unique = same_answer answer answer' (p.refusal ∙ sym q.refusal) (p.size ∙ sym q.size) sizes
     where
       sizes : built_refusal answer ≡ 0 → 0 < built_size answer
       sizes z = omega (arith, p.size ∙ ap (λ (t : Bool). cond t (frame_size l) 0) (eq-eqb (build_refusal l mode (length message) (length before)) 0 (sym p.refusal ∙ z)))
@@ -49,15 +41,21 @@ module _ {l mode : ℕ} {message before after after' : List ℕ} {answer answer'
           ∙ take-append-drop (frame_size l) after'
       go (no d) = p.kept d ∙ sym (q.kept d)
 
-recovered_same :
-    (a b : Recovered) → recovered_refusal a ≡ recovered_refusal b → recovered_length a ≡ recovered_length b → recovered_mode a ≡ recovered_mode b → recovered_cost a ≡ recovered_cost b
-    → (recovered_refusal a ≡ 0 → 0 < recovered_length a) → a ≡ b
-recovered_same (Recovered-is.Done l m c) (Recovered-is.Done l' m' c') r e f g z = cc
-recovered_same (Recovered-is.Refused x) (Recovered-is.Refused y) r e f g z = ap Recovered-is.Refused r
-recovered_same (Recovered-is.Done l m c) (Recovered-is.Refused y) r e f g z = absurd (omega (arith, z refl))
-recovered_same (Recovered-is.Refused x) (Recovered-is.Done l m c) r e f g z = absurd (omega (arith, z r))
+-- three numbers are what recovering answers where it is done
+same_numbers : (a b : Recovered) → a.length ≡ b.length → a.mode ≡ b.mode → a.cost ≡ b.cost → a ≡ b
+same_numbers a b e f g =
+    ap (λ (l : ℕ). record { length = l; mode = a.mode; cost = a.cost }) e
+    ∙ ap₂ (λ (m c : ℕ). record { length = b.length; mode = m; cost = c }) f g
 
-module _ {l : ℕ} {marks values before after after' : List ℕ} {answer answer' : Recovered}
+recovered_same :
+    (a b : Recovery) → recovered_refusal a ≡ recovered_refusal b → recovered_length a ≡ recovered_length b → recovered_mode a ≡ recovered_mode b → recovered_cost a ≡ recovered_cost b
+    → (recovered_refusal a ≡ 0 → 0 < recovered_length a) → a ≡ b
+recovered_same (Ok x) (Ok y) r e f g z = ap Ok (same_numbers x y e f g)
+recovered_same (Err x) (Err y) r e f g z = ap Err (number_injective x y r)
+recovered_same (Ok x) (Err y) r e f g z = absurd (omega (arith, z refl))
+recovered_same (Err x) (Ok y) r e f g z = absurd (omega (arith, z r))
+
+module _ {l : ℕ} {marks values before after after' : List ℕ} {answer answer' : Recovery}
     (p : Recovers l marks values before after answer) (q : Recovers l marks values before after' answer') where
   pub recovered_answer_unique : answer ≡ answer'
   recovered_answer_unique =

@@ -1,8 +1,7 @@
 -- Building, document 01: the refusals 1, 2, 3, 4 in this order, and the frame of the message.
 -- To be believed: length_wrong, frame_size, build_refusal, Builds. Assumes nothing.
 use Rattle.std.specs.Prelude.{Bool, cond, ◌||◌, List, ◌≡◌, ℕ, ◌+◌, ◌*◌, ltb, eqb, length, take, drop}
-use Rattle.uplink.specs.declared.Built.{Built}
-use Rattle.uplink.specs.Answers.{built_refusal, built_size}
+use Rattle.uplink.specs.Answers.{Built, built_refusal, built_size}
 use Rattle.uplink.specs.Frame.{Frame}
 
 -- 1: L below 20 or above 255

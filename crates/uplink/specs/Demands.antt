@@ -9,9 +9,7 @@ use Rattle.interleave.specs.Interleave.{coded_bits, Length}
 use Rattle.interleave.specs.Bursts.{heard, received}
 use Rattle.payload.specs.Payload.{payload, payload_bits}
 use Rattle.payload.specs.Open.{open_refusal}
-use Rattle.uplink.specs.declared.Built.{Built}
-use Rattle.uplink.specs.declared.Recovered.{Recovered}
-use Rattle.uplink.specs.Answers.{built_refusal, recovered_refusal, recovered_length, recovered_mode, recovered_cost}
+use Rattle.uplink.specs.Answers.{Built, Recovery, built_refusal, recovered_refusal, recovered_length, recovered_mode, recovered_cost}
 use Rattle.uplink.specs.Frame.{coded_payload, Frame}
 use Rattle.uplink.specs.Build.{frame_size, Builds}
 use Rattle.uplink.specs.Recover.{marks_good, silent, opened, Recovers}
@@ -50,13 +48,13 @@ pub record Demand1 : Type 0 where
       {l mode : ℕ} {message before after : List ℕ} {answer : Built}
       → Builds l mode message before after answer → FirstBuild l mode (length message) (length before) (built_refusal answer)
   pub recover_order :
-      {l : ℕ} {marks values before after : List ℕ} {answer : Recovered}
+      {l : ℕ} {marks values before after : List ℕ} {answer : Recovery}
       → Recovers l marks values before after answer → FirstRecover l marks values (length before) (recovered_refusal answer)
   pub build_keeps :
       {l mode : ℕ} {message before after : List ℕ} {answer : Built}
       → Builds l mode message before after answer → (built_refusal answer ≡ 0 → ⊥) → after ≡ before
   pub recover_keeps :
-      {l : ℕ} {marks values before after : List ℕ} {answer : Recovered}
+      {l : ℕ} {marks values before after : List ℕ} {answer : Recovery}
       → Recovers l marks values before after answer → (recovered_refusal answer ≡ 0 → ⊥) → after ≡ before
 
 -- a message that can be sent, and its mode
@@ -71,7 +69,7 @@ RightSide true v = (0 < v) × (v < 128)
 RightSide false v = (128 ≤ v) × (v < 256)
 
 -- the message and the mode are returned, and bytes beyond the message are kept
-pub record Returned (message : List ℕ) (mode : ℕ) (before after : List ℕ) (answer : Recovered) : Type 0 where
+pub record Returned (message : List ℕ) (mode : ℕ) (before after : List ℕ) (answer : Recovery) : Type 0 where
   pub refusal : recovered_refusal answer ≡ 0
   pub length_is : recovered_length answer ≡ length message
   pub mode_is : recovered_mode answer ≡ mode
@@ -95,7 +93,7 @@ pub record Demand2 : Type 0 where
       {mode : ℕ} {message before after : List ℕ} {answer : Built}
       → Builds (length message) mode message before after answer → Sendable message mode → frame_size (length message) ≤ length before → built_refusal answer ≡ 0
   pub comes_back :
-      {mode : ℕ} {message marks values before after : List ℕ} {answer : Recovered}
+      {mode : ℕ} {message marks values before after : List ℕ} {answer : Recovery}
       → Sendable message mode
       → Formed (length message) marks values (length before)
       → ((j : ℕ) → j < coded_bits (length message) → RightSide (get_or (coded_payload message mode) j false) (heard (length message) marks values j))
@@ -105,11 +103,11 @@ pub record Demand2 : Type 0 where
 -- "Take every string of payload bits of the told length, its checks good or bad. The one behind a recovered message has coded bits that stand against the received values by a total weight that none of the others undercuts. Among equals it is the one with 0 at the first bit entering the coder where they differ. If a call isn't refused for its form, a frame was built for the told length, and twice the weight heard against it is less than the weight heard at the places where its coded bits differ from those of each other string, that frame's message and mode are returned."
 pub record Demand3 : Type 0 where
   pub behind :
-      {l : ℕ} {marks values before after : List ℕ} {answer : Recovered}
+      {l : ℕ} {marks values before after : List ℕ} {answer : Recovery}
       → Recovers l marks values before after answer → recovered_refusal answer ≡ 0
       → Behind l marks values (take l after) (recovered_mode answer) (recovered_cost answer)
   pub returned :
-      {mode : ℕ} {message marks values before after : List ℕ} {answer : Recovered}
+      {mode : ℕ} {message marks values before after : List ℕ} {answer : Recovery}
       → Sendable message mode
       → Formed (length message) marks values (length before)
       → ((y : List Bool) → length y ≡ payload_bits (length message) → (y ≡ whitened (payload message mode) → ⊥)
@@ -127,10 +125,10 @@ pub record NoSecond : Type 0 where
       {l mode : ℕ} {message before after after' : List ℕ} {answer answer' : Built}
       → Builds l mode message before after answer → Builds l mode message before after' answer' → after ≡ after'
   pub recover_answer :
-      {l : ℕ} {marks values before after after' : List ℕ} {answer answer' : Recovered}
+      {l : ℕ} {marks values before after after' : List ℕ} {answer answer' : Recovery}
       → Recovers l marks values before after answer → Recovers l marks values before after' answer' → answer ≡ answer'
   pub recover_buffer :
-      {l : ℕ} {marks values before after after' : List ℕ} {answer answer' : Recovered}
+      {l : ℕ} {marks values before after after' : List ℕ} {answer answer' : Recovery}
       → Recovers l marks values before after answer → Recovers l marks values before after' answer' → after ≡ after'
 
 -- the same number of values, and the same ones in every sub-packet that is heard
@@ -142,16 +140,16 @@ pub record Alike (marks values others : List ℕ) : Type 0 where
 pub record SoftValues : Type 0 where
   -- "All values of a lost sub-packet count as zero, and two runs that differ only there answer alike."
   pub lost_answer :
-      {l : ℕ} {marks values others before after after' : List ℕ} {answer answer' : Recovered}
+      {l : ℕ} {marks values others before after after' : List ℕ} {answer answer' : Recovery}
       → Alike marks values others → Recovers l marks values before after answer → Recovers l marks others before after' answer' → answer ≡ answer'
   pub lost_buffer :
-      {l : ℕ} {marks values others before after after' : List ℕ} {answer answer' : Recovered}
+      {l : ℕ} {marks values others before after after' : List ℕ} {answer answer' : Recovery}
       → Alike marks values others → Recovers l marks values before after answer → Recovers l marks others before after' answer' → after ≡ after'
   -- "A zero says nothing."
   pub zero_says_nothing : (b : Bool) → against b 0 ≡ 0
   -- the cost is "at most 795,648"
   pub most :
-      {l : ℕ} {marks values before after : List ℕ} {answer : Recovered}
+      {l : ℕ} {marks values before after : List ℕ} {answer : Recovery}
       → Recovers l marks values before after answer → recovered_cost answer ≤ 795648
 
 -- any program for build: its answer and what it leaves in the buffer, for every input
@@ -162,7 +160,7 @@ pub record Builder : Type 0 where
 
 -- any program for recover
 pub record Recoverer : Type 0 where
-  pub answer : (l : ℕ) (marks values before : List ℕ) → Recovered
+  pub answer : (l : ℕ) (marks values before : List ℕ) → Recovery
   pub after : (l : ℕ) (marks values before : List ℕ) → List ℕ
   pub meets : (l : ℕ) (marks values before : List ℕ) → Recovers l marks values before (after l marks values before) (answer l marks values before)
 

@@ -1,12 +1,13 @@
 -- What the inner functions of build and recover say to each other. Nothing here has to be believed.
 -- Assumes nothing.
-use Rattle.std.specs.Prelude.{false, List, ◌++◌, map, ◌≡◌, ℕ, ◌+◌, ◌*◌, ◌≤◌, length, take, drop}
+use Rattle.std.specs.Prelude.{false, cond, ◌&&◌, List, ◌++◌, map, ◌≡◌, ℕ, ◌+◌, ◌*◌, ◌≤◌, eqb, length, take, drop}
 use Rattle.bits.specs.Bits.{bit}
 use Rattle.interleave.specs.Interleave.{Length}
+use Rattle.interleave.specs.declared.frames.Heard.{Heard}
 use Rattle.payload.specs.Payload.{payload_bits}
 use Rattle.uplink.specs.Frame.{Frame}
-use Rattle.uplink.specs.Build.{frame_size}
-use Rattle.uplink.specs.Recover.{silent, nearest_cost, opened, recover_refusal}
+use Rattle.uplink.specs.Build.{length_wrong, frame_size}
+use Rattle.uplink.specs.Recover.{silent, nearest_cost, opened}
 use Rattle.uplink.specs.Demands.{Formed}
 
 -- a message that can be built, and room for its frame
@@ -21,30 +22,22 @@ pub record Put (message : List ℕ) (mode : ℕ) (before after : List ℕ) : Typ
   pub frame : Frame message mode (take (frame_size (length message)) after)
   pub rest : drop (frame_size (length message)) after ≡ drop (frame_size (length message)) before
 
--- sizes that are right, refusals 1 to 3
-pub record Sized (l : ℕ) (marks values : List ℕ) (room : ℕ) : Type 0 where
-  pub told : Length l
-  pub marked : length marks ≡ l + 4
-  pub valued : length values ≡ 24 * (l + 4)
-  pub roomy : l ≤ room
+-- the first of: 1 length; 2 marks or values not of the exact size. 0 where none holds
+unfoldable pub sizes_refusal : ℕ → List ℕ → List ℕ → ℕ
+sizes_refusal l marks values =
+    cond (length_wrong l) 1 (cond (eqb (length marks) (l + 4) && eqb (length values) (24 * (l + 4))) 0 2)
 
--- 1, 2 or 3, or 0 where the sizes are right
-pub record SizesJudged (l : ℕ) (marks values : List ℕ) (room r : ℕ) : Type 0 where
-  pub refused : (r ≡ 0 → ⊥) → recover_refusal l marks values room ≡ r
-  pub right : r ≡ 0 → Sized l marks values room
+-- what was heard is of this length, these marks and values
+pub record HeardOf (l : ℕ) (marks values : List ℕ) (heard : Heard) : Type 0 where
+  pub told : heard.l ≡ l
+  pub marked : heard.marks.now ≡ marks
+  pub valued : heard.values.now ≡ values
 
--- 1, 2, 3, 5 or 6, or 0 where something is heard
-pub record FormJudged (l : ℕ) (marks values : List ℕ) (room r : ℕ) : Type 0 where
-  pub refused : (r ≡ 0 → ⊥) → recover_refusal l marks values room ≡ r
-  pub formed : r ≡ 0 → Formed l marks values room
-  pub heard : r ≡ 0 → silent marks values ≡ false
-
--- marks and values of the right sizes, and room for the payload's bits
-pub record Hearing (l : ℕ) (marks values bits : List ℕ) : Type 0 where
-  pub told : Length l
-  pub marked : length marks ≡ l + 4
-  pub valued : length values ≡ 24 * (l + 4)
-  pub room : length bits ≡ 2066
+-- it is not refused for its form, and something was heard
+pub record Passed (l : ℕ) (marks values : List ℕ) (room : ℕ) (heard : Heard) : Type 0 where
+  pub of : HeardOf l marks values heard
+  pub formed : Formed l marks values room
+  pub something : silent marks values ≡ false
 
 -- the bits behind the nearest string, and its cost
 pub record Nearing (l : ℕ) (marks values before after : List ℕ) (total : ℕ) : Type 0 where

@@ -1,6 +1,7 @@
 -- Recovering, document 01: the refusals 1, 2, 3, 5, 6, 7, 8, 9 in this order, and the message behind the nearest string.
 -- To be believed: marks_good, silent, nearest_string, opened, recover_refusal, Recovers. Assumes nothing.
 use Rattle.std.specs.Prelude.{Bool, true, cond, not, ◌&&◌, ◌||◌, List, [], ◌∷◌, ◌++◌, ◌≡◌, ℕ, ◌+◌, ◌*◌, ltb, leb, eqb, length, take, drop}
+use Rattle.std.specs.List.{list_all}
 use Rattle.coder.specs.Coder.{uplink_words}
 use Rattle.coder.specs.Cost.{cost}
 use Rattle.coder.specs.Nearest.{nearest}
@@ -8,19 +9,16 @@ use Rattle.whiten.specs.Whiten.{whitened}
 use Rattle.interleave.specs.Bursts.{received}
 use Rattle.payload.specs.Payload.{payload_bits}
 use Rattle.payload.specs.Open.{open_refusal, message_of, mode_of}
-use Rattle.uplink.specs.declared.Recovered.{Recovered}
-use Rattle.uplink.specs.Answers.{recovered_refusal, recovered_length, recovered_mode, recovered_cost}
+use Rattle.uplink.specs.Answers.{Recovery, recovered_refusal, recovered_length, recovered_mode, recovered_cost}
 use Rattle.uplink.specs.Build.{length_wrong}
 
 -- each mark is 0, lost, or 1, heard
 unfoldable pub marks_good : List ℕ → Bool
-marks_good [] = true
-marks_good (m ∷ ms) = leb m 1 && marks_good ms
+marks_good marks = list_all (λ m. leb m 1) marks
 
 -- all values are zero
 unfoldable pub zeros : List ℕ → Bool
-zeros [] = true
-zeros (v ∷ vs) = eqb v 0 && zeros vs
+zeros values = list_all (λ v. eqb v 0) values
 
 -- no heard sub-packet has a non-zero value; each has 24 values
 unfoldable pub silent : List ℕ → List ℕ → Bool
@@ -48,7 +46,7 @@ recover_refusal l marks values room =
     2)
 
 -- what recovering answers and leaves in the lent buffer, for every input
-pub record Recovers (l : ℕ) (marks values before after : List ℕ) (answer : Recovered) : Type 0 where
+pub record Recovers (l : ℕ) (marks values before after : List ℕ) (answer : Recovery) : Type 0 where
   pub refusal : recovered_refusal answer ≡ recover_refusal l marks values (length before)
   pub told : recovered_length answer ≡ cond (eqb (recover_refusal l marks values (length before)) 0) l 0
   pub mode : recovered_mode answer ≡ cond (eqb (recover_refusal l marks values (length before)) 0) (mode_of l (opened l marks values)) 0

@@ -6,22 +6,17 @@ pub mod judge;
 ghost use Rattle.std.specs.Prelude.{◌≡◌};
 ghost use Rattle.uplink.specs.Build.{Builds};
 ghost use Rattle.uplink.specs.Recover.{Recovers};
-ghost use Rattle.uplink.specs.Parts.{Buildable, Put, Hearing, Nearing};
+ghost use Rattle.uplink.specs.Parts.{Buildable, Put, Nearing};
 
-use payload::Opened;
+use interleave::{Coded, Heard};
+use refusals::Refusal;
 
-// What building answers: the bytes written, or the number of the refusal.
-#[derive(Clone, Copy)]
-pub enum Built {
-    Done(u32),
-    Refused(u32),
-}
-
-// What recovering answers: the length of the message, its mode and the cost of the nearest string, or the number of the refusal.
-#[derive(Clone, Copy)]
-pub enum Recovered {
-    Done { length: u32, mode: u32, cost: u32 },
-    Refused(u32),
+// What recovering answers where it is done: the length of the message, its mode and the cost of the nearest string.
+#[derive(Clone, Copy, Debug, PartialEq, Eq)]
+pub struct Recovered {
+    pub length: u32,
+    pub mode: u32,
+    pub cost: u32,
 }
 
 // Writes the frame of a message that can be built: payload, whitening, coding, placing.
@@ -36,55 +31,49 @@ fn put_frame(mode: u8, message: &[u8], frame: &mut [u8])
     whiten::apply(&mut bits[..n]);
     let mut coded = [0u8; 6216];
     coder::encode(&bits[..n], &mut coded);
-    placing::fill(l, &coded, frame);
+    placing::fill(Coded { l, bits: &coded }, frame);
 }
 
-// The frame of a message of l bytes and its mode, 36 (l + 4) bytes, each 0 or 1, to the start of `frame`; or the first refusal that holds of 1, 2, 3, 4, and then nothing is written.
-pub fn build(l: u64, mode: u64, message: &[u8], frame: &mut [u8]) -> Built
+// The frame of a message of l bytes and its mode, 36 (l + 4) bytes, each 0 or 1, to the start of `frame`, and how many they
+// are; or the first refusal that holds of 1, 2, 3, 4, and then nothing is written.
+pub fn build(l: u64, mode: u64, message: &[u8], frame: &mut [u8]) -> Result<u32, Refusal>
     ensures { Builds l mode message.now frame.old frame.new result }
 {
-    let refusal = judge::build_refusal(l, mode, message.len(), frame.len());
-    if refusal != 0 {
-        return Built::Refused(refusal);
-    }
+    judge::may_build(l, mode, message.len(), frame.len())?;
     put_frame(mode as u8, message, frame);
-    let size = 36 * ((l as u32) + 4);
-    Built::Done(size)
+    Ok(36 * (l as u32 + 4))
 }
 
-// The payload bits behind the nearest string of the told length to the values heard, one byte each, and that string's cost.
-fn nearest_payload(l: usize, marks: &[u8], values: &[u8], bits: &mut [u8]) -> u32
-    requires { Hearing l marks.now values.now bits.old }
-    ensures { Nearing l marks.now values.now bits.old bits.new result }
+// The payload bits behind the nearest string to the values heard, one byte each, and that string's cost.
+fn nearest_payload(heard: Heard, bits: &mut [u8; 2066]) -> u32
+    ensures { Nearing heard.entry.l heard.entry.marks.now heard.entry.values.now bits.old bits.new result }
 {
-    let n = 26 + 8 * l;
-    let c = 96 + 24 * l;
+    let n = 26 + 8 * heard.l;
+    let c = 96 + 24 * heard.l;
     let mut received = [0u8; 6216];
-    placing::gather(l, marks, values, &mut received);
+    placing::gather(heard, &mut received);
     let cost = search::search(&received[..c], n, bits);
     whiten::apply(&mut bits[..n]);
     cost
 }
 
-// The message behind the nearest string, l bytes to the start of `message`, with its mode and cost; or the first refusal that holds of 1, 2, 3, 5, 6, 7, 8, 9, and then nothing is written.
-pub fn recover(l: u64, marks: &[u8], values: &[u8], message: &mut [u8]) -> Recovered
+// The message behind the nearest string, l bytes to the start of `message`, with its mode and cost; or the first refusal
+// that holds of 1, 2, 3, 5, 6, 7, 8, 9, and then nothing is written.
+pub fn recover(
+    l: u64,
+    marks: &[u8],
+    values: &[u8],
+    message: &mut [u8],
+) -> Result<Recovered, Refusal>
     ensures { Recovers l marks.now values.now message.old message.new result }
 {
-    let refusal = judge::form_refusal(l, marks, values, message.len());
-    if refusal != 0 {
-        return Recovered::Refused(refusal);
-    }
-    let told = l as usize;
-    let n = 26 + 8 * told;
+    let heard = judge::may_recover(l, marks, values, message.len())?;
     let mut bits = [0u8; 2066];
-    let cost = nearest_payload(told, marks, values, &mut bits);
-    let answer = payload::open(&bits[..n], told, message);
-    match answer {
-        Opened::Done(mode) => Recovered::Done {
-            length: l as u32,
-            mode: mode as u32,
-            cost,
-        },
-        Opened::Refused(number) => Recovered::Refused(number as u32),
-    }
+    let cost = nearest_payload(heard, &mut bits);
+    let mode = payload::open(&bits[..26 + 8 * heard.l], heard.l, message)?;
+    Ok(Recovered {
+        length: heard.l as u32,
+        mode: u32::from(mode),
+        cost,
+    })
 }

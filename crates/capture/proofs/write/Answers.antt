@@ -1,21 +1,22 @@
 -- `capture::write` meets its contract. Assumes nothing.
-use mathlib.Core.Path.{sym, ◌∙◌}
-use native.Mathlib.Omega.{arith}
-use lib.ListN.{length}
+use Rattle.std.proofs.Common.{sym, ◌≡◌, ℕ, List, length}
+use Rattle.interleave.specs.declared.frames.Heard.{Heard}
+use Rattle.uplink.specs.Parts.{HeardOf}
+use Rattle.capture.specs.Writing.{write_refusal}
 use Rattle.capture.proofs.Refusals.{write_taken}
+use Rattle.capture.proofs.Answering.{writes_done, writes_of}
 use Rattle.capture.proofs.write.Goals as goal
 
-pub overflow_cast-l : goal.overflow_cast-l
-overflow_cast-l c = omega (arith, (write_taken c.args.l c.args.marks.now c.args.values.now (length c.args.capture.now) (sym c.write_refusal-refusal.ensures ∙ c.if-refusal-ne0.false)).told.high)
+-- a call that is not refused, by what was heard of it
+taken : {l : ℕ} {marks values : List ℕ} (room : ℕ) {h : Heard} → HeardOf l marks values h → 0 ≡ write_refusal l marks values room → 0 ≡ write_refusal h.l h.marks.now h.values.now room
+taken room of e = rw (of.told, of.marked, of.valued) e
 
 pub put_capture-requires : goal.put_capture-requires
-put_capture-requires c = (write_taken c.args.l c.args.marks.now c.args.values.now (length c.args.capture.now) (sym c.write_refusal-refusal.ensures ∙ c.if-refusal-ne0.false))
+put_capture-requires c =
+    let h = c.in_ok-heard.heard in
+    (write_taken h.l h.marks.now h.values.now (length c.args.capture.now) (sym (taken (length c.args.capture.now) c.in_ok-heard.ensures.heard c.in_ok-heard.ensures.refusal))).roomy
 
-pub overflow_cast-size : goal.overflow_cast-size
-overflow_cast-size c = omega (arith, (write_taken c.args.l c.args.marks.now c.args.values.now (length c.args.capture.now) (sym c.write_refusal-refusal.ensures ∙ c.if-refusal-ne0.false)).told.high)
-
-pub overflow_mul-size : goal.overflow_mul-size
-overflow_mul-size c = omega (arith, (write_taken c.args.l c.args.marks.now c.args.values.now (length c.args.capture.now) (sym c.write_refusal-refusal.ensures ∙ c.if-refusal-ne0.false)).told.high)
-
-pub overflow_add-size : goal.overflow_add-size
-overflow_add-size c = omega (arith, (write_taken c.args.l c.args.marks.now c.args.values.now (length c.args.capture.now) (sym c.write_refusal-refusal.ensures ∙ c.if-refusal-ne0.false)).told.high)
+pub returns : goal.returns
+returns c =
+    let of = c.in_ok-heard.ensures.heard in
+    writes_of of (writes_done (sym (taken (length c.args.capture.now) of c.in_ok-heard.ensures.refusal)) c.put_capture.ensures)

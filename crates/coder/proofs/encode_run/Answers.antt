@@ -1,14 +1,11 @@
--- `coder::encode_run` meets its contract. The loop's invariant: the outputs of the bits before i are written (`Coding`).
--- The measure is what is left of the run. Assumes nothing.
-use borrow.Author.Rules.{rules}
+-- `coder::encode_run` meets its contract. Assumes nothing.
 use native.Mathlib.Omega.{arith}
 use Rattle.coder.proofs.Runs.{coding_start, coding_step}
 use Rattle.coder.proofs.encode_run.Goals as goal
 
 pub loop-i-init : goal.loop-i-init
-loop-i-init c = coding_start _ _ _ (search rules) (search rules)
+loop-i-init c = coding_start _ _ _ c.requires.state
 
 pub loop-i-preserved : goal.loop-i-preserved
 loop-i-preserved c =
-    let l = c.loop-i in
-    coding_step l.invariant (omega arith) c.window-w.ensures c.put_outputs.ensures
+    coding_step c.loop-i.invariant (omega arith) c.requires.room c.window-w.ensures c.step_outputs.ensures

@@ -1,12 +1,7 @@
 -- `coder::encode_run` meets its contract. The loop's invariant: the outputs of the bits before i are written (`Coding`).
--- The measure is what is left of the run. Assumes nothing.
-use Prim.Native.Nat.{◌-◌}
-use lib.ListN.{length}
+-- Assumes nothing.
 use Rattle.coder.proofs.Runs.{Coding}
 use Rattle.coder.proofs.encode_run.Given as goal
 
 abbrev pub invariant-loop-i : goal.invariant-loop-i
 invariant-loop-i l = Coding l.before l.bits l.initial.out l.out l.s l.i
-
-abbrev pub decreases-loop-i : goal.decreases-loop-i
-decreases-loop-i l = length l.bits - l.i

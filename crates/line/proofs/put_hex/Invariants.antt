@@ -1,11 +1,7 @@
--- `line::put_hex` meets its contract. The loop's invariant: the digits of the first i bytes are put (`Hexing`). The measure is what is left of them. Assumes nothing.
-use Prim.Native.Nat.{◌-◌}
-use lib.ListN.{length}
-use Rattle.line.proofs.Appending.{Hexing}
+-- `line::put_hex`: the digits of the bytes before x stand behind what was there. Assumes nothing.
+use Rattle.std.proofs.Common.{◌≡◌, ◌++◌, take}
+use Rattle.line.specs.Line.{hex}
 use Rattle.line.proofs.put_hex.Given as goal
 
-abbrev pub invariant-loop-i : goal.invariant-loop-i
-invariant-loop-i l = Hexing l.bytes l.initial.out l.at l.i l.out l.next
-
-abbrev pub decreases-loop-i : goal.decreases-loop-i
-decreases-loop-i l = length l.bytes - l.i
+abbrev pub invariant-loop-x : goal.invariant-loop-x
+invariant-loop-x l = l.line.items ≡ l.initial.line.items ++ hex (take l.x-index l.bytes)

@@ -13,6 +13,6 @@ returns c =
     let least = c.requires.least in
     let body = c.put_body.ensures in
     let inner = c.crc8_of-payload_crc.ensures ∙ crc8_filled_24 m mode old least room body in
-    let next = c.put_byte.ensures in
+    let next = c.put_bits.ensures in
     let outer = c.crc8_of-header_crc.ensures ∙ crc8_filled_8 m mode old least room body inner next in
-    composed m mode old least room body inner next outer c.put_byte-2.ensures
+    composed m mode old least room body inner next outer c.put_bits-2.ensures

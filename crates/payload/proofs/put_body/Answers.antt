@@ -15,9 +15,9 @@ returns c =
     let bytes = bits_of_bytes m in
     let mode = bits_of 2 s.args.mode in
     sets_then s.args.bits.now 16 size (bytes ++ mode)
-    c.put_byte.ensures
+    c.put_bits.ensures
     (rw length-bits_of refl)
     (sets_then _ 24 bytes mode
     c.put_bytes.ensures
     (rw length-bits_of_bytes refl)
-    c.put_mode.ensures)
+    c.put_bits-2.ensures)

@@ -10,4 +10,4 @@ loop-i-init c = putting_start _ _ _ c.requires
 pub loop-i-preserved : goal.loop-i-preserved
 loop-i-preserved c =
     let l = c.loop-i in
-    putting_step l.invariant (omega arith) c.put_byte.ensures
+    putting_step l.invariant (omega arith) c.put_bits.ensures

@@ -8,4 +8,4 @@ pub loop-i-init : goal.loop-i-init
 loop-i-init c = taking_start _ _ _ c.requires.room
 
 pub loop-i-preserved : goal.loop-i-preserved
-loop-i-preserved c = taking_step c.loop-i.invariant (omega arith) c.byte_at.ensures
+loop-i-preserved c = taking_step c.loop-i.invariant (omega arith) c.number_at.ensures

@@ -1,11 +1,7 @@
 -- `quantise::take_in` meets its contract. The loop's invariant, `Filling`: the values of the numbers before i are written.
 -- Assumes nothing.
-use Prim.Native.Nat.{◌-◌}
 use Rattle.quantise.proofs.Filling.{Filling}
 use Rattle.quantise.proofs.take_in.Given as goal
 
 abbrev pub invariant-loop-i : goal.invariant-loop-i
 invariant-loop-i l = Filling l.numbers l.initial.values l.values l.peak l.i
-
-abbrev pub decreases-loop-i : goal.decreases-loop-i
-decreases-loop-i l = 24 - l.i

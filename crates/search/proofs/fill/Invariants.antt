@@ -3,7 +3,4 @@ use Rattle.search.proofs.Going.{Going}
 use Rattle.search.proofs.fill.Given as goal
 
 abbrev pub invariant-loop-t : goal.invariant-loop-t
-invariant-loop-t l = Going l.values l.n l.t l.row l.off l.kept
-
-abbrev pub decreases-loop-t : goal.decreases-loop-t
-decreases-loop-t l = l.t
+invariant-loop-t l = Going l.values l.n l.t l.level.row l.level.off l.kept

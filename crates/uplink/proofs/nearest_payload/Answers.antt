@@ -2,6 +2,7 @@
 use mathlib.Core.Path.{◌≡◌}
 use Prim.Native.Nat.{ℕ, ◌+◌, ◌*◌}
 use native.Mathlib.Omega.{arith}
+use Rattle.uplink.proofs.Forms.{heard_length}
 use Rattle.uplink.proofs.Recovering.{nearing_of}
 use Rattle.uplink.proofs.nearest_payload.Goals as goal
 
@@ -11,4 +12,4 @@ counted l = omega arith
 
 pub returns : goal.returns
 returns c =
-    nearing_of c.args.l c.args.marks.now c.args.values.now _ c.requires.told c.gather.ensures c.search-cost.ensures c.apply.ensures
+    nearing_of c.args.heard.l c.args.heard.marks.now c.args.heard.values.now _ (heard_length c.args.heard) c.gather.ensures c.search-cost.ensures c.apply.ensures

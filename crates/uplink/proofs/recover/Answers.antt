@@ -1,14 +1,14 @@
 -- `uplink::recover` meets its contract. Assumes nothing.
-use mathlib.Core.List.{List}
-use mathlib.Core.Path.{sym, subst, ◌∙◌}
-use Prim.Native.Nat.{ℕ, ◌+◌, ◌*◌}
-use lib.ListN.{length, take, length-map}
+use Rattle.std.proofs.Common.{rules, sym, ◌∙◌, ℕ, ◌+◌, ◌*◌, List, length, take}
+use mathlib.Core.Path.{subst}
+use lib.ListN.{length-map}
 use Rattle.bits.specs.Bits.{bit}
 use Rattle.payload.specs.Calls.{Openable}
 use Rattle.uplink.specs.Recover.{opened}
 use Rattle.uplink.specs.Demands.{Formed}
 use Rattle.uplink.specs.Parts.{Nearing}
-use Rattle.uplink.proofs.Recovering.{recovers_done, recovers_failed, refused_not_zero, nearing_front, map-bit_binary, length-opened}
+use Rattle.uplink.proofs.Forms.{passed_form, passed_heard, recovers_of}
+use Rattle.uplink.proofs.Recovering.{recovers_done, recovers_failed, nearing_front, map-bit_binary, length-opened}
 use Rattle.uplink.proofs.recover.Goals as goal
 
 -- the bits behind the nearest string can be opened
@@ -23,14 +23,17 @@ openable {l} {marks} {values} {message = message} f p =
       binary = map-bit_binary (opened l marks values);
     })
 
-pub open-answer-requires : goal.open-answer-requires
-open-answer-requires c =
-    openable (c.form_refusal-refusal.ensures.formed c.if-refusal-ne0.false) c.nearest_payload-cost.ensures
+pub open-requires : goal.open-requires
+open-requires c = openable (passed_form c.in_ok-heard.ensures) c.nearest_payload-cost.ensures
 
-pub returns-in-Done : goal.returns-in-Done
-returns-in-Done c = recovers_done c.args.message.now (c.form_refusal-refusal.ensures.formed c.if-refusal-ne0.false) (c.form_refusal-refusal.ensures.heard c.if-refusal-ne0.false) c.nearest_payload-cost.ensures c.in-Done.ensures
+pub returns-in_err-mode : goal.returns-in_err-mode
+returns-in_err-mode c =
+    let p = c.in_ok-heard.ensures in
+    let failed = recovers_failed c.args.message.now (passed_form p) (passed_heard p) c.nearest_payload-cost.ensures c.in_err-mode.field-0.0 c.in_err-mode.ensures in
+    search (rules, recovers_of p.of failed)
 
-pub returns-in-Refused : goal.returns-in-Refused
-returns-in-Refused c =
-    let o = c.in-Refused.ensures in
-    recovers_failed c.args.message.now (c.form_refusal-refusal.ensures.formed c.if-refusal-ne0.false) (c.form_refusal-refusal.ensures.heard c.if-refusal-ne0.false) c.nearest_payload-cost.ensures (refused_not_zero c.args.message.now (c.form_refusal-refusal.ensures.formed c.if-refusal-ne0.false) (c.form_refusal-refusal.ensures.heard c.if-refusal-ne0.false) c.nearest_payload-cost.ensures o) o
+pub returns : goal.returns
+returns c =
+    let p = c.in_ok-heard.ensures in
+    let done = recovers_done c.args.message.now (passed_form p) (passed_heard p) c.nearest_payload-cost.ensures c.in_ok-mode.ensures in
+    rw c.from.ensures (recovers_of p.of done)

@@ -1,16 +1,20 @@
--- `whiten::apply` meets its contract. The loop's invariant: the bytes before `at` are whitened (`Walk`), and `at` is a multiple of
--- the period. The measure is what is left of the run. Assumes nothing.
+-- `whiten::apply` meets its contract: a period more is whitened from its own start (`walk_part`), and after the rest
+-- all is. Assumes nothing.
+use mathlib.Core.Path.{◌≡◌}
+use Prim.Native.Nat.{◌+◌, ◌*◌, ◌/◌}
+use lib.ListN.{length}
 use native.Mathlib.Omega.{arith}
 use Rattle.whiten.proofs.Walk.{walk_part, walk_end}
 use Rattle.whiten.proofs.apply.Goals as goal
 
-pub loop-bits-preserved : goal.loop-bits-preserved
-loop-bits-preserved c =
-    let l = c.loop-bits in
-    (walk_part _ l.invariant.0 l.invariant.1 (omega arith) (omega arith) c.apply_period.ensures, omega arith)
+pub loop-k-preserved : goal.loop-k-preserved
+loop-k-preserved c =
+    let e : 511 * c.loop-k.k + 511 ≡ 511 * (c.loop-k.k + 1) = omega arith in
+    rw (← e) (walk_part _ c.loop-k.invariant (omega arith) (omega arith) (omega arith) c.apply_period.ensures)
 
 pub returns : goal.returns
 returns c =
-    let l = c.loop-bits in
-    let w = walk_part _ l.invariant.0 l.invariant.1 (omega arith) (omega arith) c.apply_period-2.ensures in
-    walk_end w (omega (arith, w.sized, l.invariant.0.sized))
+    let e : c.loop-k.k ≡ length c.args.bits.now / 511 = omega arith in
+    let start = rw e at c.loop-k.invariant in
+    let w = walk_part _ start (omega arith) (omega arith) (omega arith) c.apply_period-2.ensures in
+    walk_end w (omega (arith, w.sized, start.sized))

@@ -1,6 +1,6 @@
--- `whiten::apply_period` meets its contract. The loop's invariant: the bytes before i are whitened (`Walk`).
--- The measure is what is left of the run. Assumes nothing.
-use borrow.Author.Rules.{rules}
+-- `whiten::apply_period` meets its contract: a bit more is whitened (`walk_step`), and after the last all are. Assumes
+-- nothing.
+use native.Mathlib.Omega.{arith}
 use mathlib.Core.Bool.{xor}
 use Rattle.whiten.specs.Whiten.{before, next}
 use Rattle.whiten.proofs.Entries.{after}
@@ -9,8 +9,7 @@ use Rattle.whiten.proofs.apply_period.Goals as goal
 
 pub loop-i-preserved : goal.loop-i-preserved
 unfolding after before next xor
-loop-i-preserved c =
-    walk_step c.loop-i.invariant (search rules) (search rules) c.differ.ensures
+loop-i-preserved c = walk_step c.loop-i.invariant (omega arith) (omega arith) c.differ.ensures
 
 pub returns : goal.returns
-returns c = walk_end c.loop-i.invariant (search rules)
+returns c = walk_end c.loop-i.invariant (omega arith)

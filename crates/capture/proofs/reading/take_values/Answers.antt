@@ -6,11 +6,11 @@ use Rattle.capture.proofs.reading.take_values.Goals as goal
 pub loop-s-init : goal.loop-s-init
 loop-s-init c = taking_start c.requires
 
-pub copy_in-next-requires : goal.copy_in-next-requires
-copy_in-next-requires c = taking_fits c.loop-s.invariant (omega arith)
+pub copy_in-requires : goal.copy_in-requires
+copy_in-requires c = taking_fits c.loop-s.invariant (omega arith)
 
 pub loop-s-preserved : goal.loop-s-preserved
-loop-s-preserved c = taking_step c.loop-s.invariant (omega arith) c.copy_in-next.ensures
+loop-s-preserved c = taking_step c.loop-s.invariant (omega arith) c.copy_in.ensures
 
 pub returns : goal.returns
 returns c = taking_end c.loop-s.invariant (omega arith)

@@ -18,17 +18,15 @@ part-24 s m values =
 
 pub returns-then-not-packet_silent : goal.returns-then-not-packet_silent
 returns-then-not-packet_silent c =
-    sym (silent_loud c.args.marks.now c.args.values.now c.loop-s.s c.loop-s-test.true
-    (sym (part-24 c.loop-s.s (get_or c.args.marks.now c.loop-s.s 0) c.args.values.now) ∙ sym c.packet_silent.ensures ∙ c.if-not-packet_silent.true))
-    ∙ c.loop-s.invariant.1
+    sym (silent_loud c.args.heard.marks.now c.args.heard.values.now c.loop-s.s c.loop-s-test.true
+    (sym (part-24 c.loop-s.s (get_or c.args.heard.marks.now c.loop-s.s 0) c.args.heard.values.now) ∙ sym c.packet_silent.ensures ∙ c.if-not-packet_silent.true))
+    ∙ c.loop-s.invariant
 
 pub loop-s-preserved : goal.loop-s-preserved
-loop-s-preserved c = (
-  omega arith,
-  sym (silent-quiet c.args.marks.now c.args.values.now c.loop-s.s c.loop-s-test.true
-      (sym (part-24 c.loop-s.s (get_or c.args.marks.now c.loop-s.s 0) c.args.values.now) ∙ sym c.packet_silent.ensures ∙ c.if-not-packet_silent.false))
-      ∙ c.loop-s.invariant.1,
-)
+loop-s-preserved c =
+    sym (silent-quiet c.args.heard.marks.now c.args.heard.values.now c.loop-s.s c.loop-s-test.true
+    (sym (part-24 c.loop-s.s (get_or c.args.heard.marks.now c.loop-s.s 0) c.args.heard.values.now) ∙ sym c.packet_silent.ensures ∙ c.if-not-packet_silent.false))
+    ∙ c.loop-s.invariant
 
 pub returns : goal.returns
-returns c = sym (silent_end c.args.marks.now (drop (24 * c.loop-s.s) c.args.values.now) c.loop-s.s (omega arith)) ∙ c.loop-s.invariant.1
+returns c = sym (silent_end c.args.heard.marks.now (drop (24 * c.loop-s.s) c.args.heard.values.now) c.loop-s.s (omega arith)) ∙ c.loop-s.invariant

@@ -1,0 +1,6 @@
+-- `pairs::Walk::outer_pairs` meets its contract: it starts where the law says. Assumes nothing.
+use Rattle.pairs.proofs.Walks.{walks_outer_pairs}
+use Rattle.pairs.proofs.Walk.outer_pairs.Goals as goal
+
+pub invariant_of-result : goal.invariant_of-result
+invariant_of-result c = record { walks = walks_outer_pairs c.requires }
