@@ -12,7 +12,7 @@ pub record FieldFits (value out : List ℕ) (at : ℕ) : Type 0 where
 
 -- the values of so many fields, and room for the fields
 pub record PacketsFit (count : ℕ) (values out : List ℕ) (at : ℕ) : Type 0 where
-  pub sized : length values ≡ 24 * count
+  pub sized : 24 * count ≤ length values
   pub room : at + 27 * count ≤ length out
 
 -- marks and values that can be written, and room for their capture
@@ -44,5 +44,5 @@ pub record Opening (l : ℕ) (c : List ℕ) : Type 0 where
 
 -- fields of values, and room for the values
 pub record ValuesFit (count : ℕ) (c values : List ℕ) : Type 0 where
-  pub sized : length c ≡ 27 * count
+  pub sized : 27 * count ≤ length c
   pub room : 24 * count ≤ length values

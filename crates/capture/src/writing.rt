@@ -1,12 +1,13 @@
 // Writing a capture: what is refused, and the fields one after the other.
-ghost use Rattle.std.specs.Prelude.{◌++◌, ◌≡◌, ◌≤◌, length, drop, IfOk};
+ghost use Rattle.std.specs.Prelude.{◌++◌, ◌≡◌, ◌+◌, ◌*◌, ◌/◌, ◌≤◌, length, drop, IfOk};
 ghost use Rattle.refusals.specs.Refusals.{refused};
 ghost use Rattle.uplink.specs.Parts.{HeardOf};
 ghost use Rattle.capture.specs.Capture.{field, packets, capture_of, capture_size};
 ghost use Rattle.capture.specs.Writing.{write_refusal};
-ghost use Rattle.capture.specs.Parts.{FieldFits, PacketsFit};
+ghost use Rattle.capture.specs.Parts.{FieldFits};
 ghost use Rattle.buffers.specs.Buffers.{Appends};
 
+use crate::fields::{LENGTH, MARKS, VALUES, head};
 use interleave::Heard;
 use refusals::Refusal;
 
@@ -30,26 +31,27 @@ pub fn may_write<'a>(
     Ok(heard)
 }
 
-// Stores a field from `at` on: its tag, its length with the high byte first, its value. Gives the place after it.
+// Stores a field from `at` on: its tag, its length with the high byte first, its value. Gives the place after it. The
+// place goes beside the buffer, which C lends: a writer that holds both would be a type and two methods for the three
+// calls here.
 fn put_field(tag: u8, value: &[u8], out: &mut [u8], at: usize) -> usize
     requires { FieldFits value.now out.old at }
     ensures { Appends out.old at (field tag value.now) out.new result }
 {
-    let size = value.len();
-    let head = [tag, (size / 256) as u8, (size % 256) as u8];
-    let next = buffers::copy_in(&head, out, at);
+    let next = buffers::copy_in(&head(tag, value.len()), out, at);
     buffers::copy_in(value, out, next)
 }
 
-// Stores so many fields of tag 03 from `at` on, 24 values each. Gives the place after them.
-fn put_packets(count: usize, values: &[u8], out: &mut [u8], at: usize) -> usize
-    requires { PacketsFit count values.now out.old at }
-    ensures { Appends out.old at (packets count values.now) out.new result }
+// Stores fields of tag 03 from `at` on, 24 values each. Gives the place after them. The place goes beside the buffer,
+// as at `put_field`.
+fn put_packets(values: &[u8], out: &mut [u8], at: usize) -> usize
+    requires { at + 27 * (length values.now / 24) ≤ length out.old }
+    ensures { Appends out.old at (packets (length values.now / 24) values.now) out.new result }
 {
     let mut next = at;
-    for s in 0..count {
+    for s in 0..values.len() / 24 {
         let from = 24 * s;
-        next = put_field(3, &values[from..from + 24], out, next);
+        next = put_field(VALUES, &values[from..from + 24], out, next);
     }
     next
 }
@@ -61,7 +63,7 @@ pub fn put_capture(heard: Heard, out: &mut [u8])
         ≡ capture_of heard.entry.l heard.entry.marks.now heard.entry.values.now ++ drop (capture_size heard.entry.l) out.old }
 {
     let told = [heard.l as u8];
-    let second = put_field(1, &told, out, 0);
-    let third = put_field(2, heard.marks, out, second);
-    put_packets(heard.l + 4, heard.values, out, third);
+    let second = put_field(LENGTH, &told, out, 0);
+    let third = put_field(MARKS, heard.marks, out, second);
+    put_packets(heard.values, out, third);
 }

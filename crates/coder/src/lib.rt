@@ -1,5 +1,5 @@
-// The convolutional coder of the uplink, TS 103 357 clause 6.4.6.3: coded bits from bits, one byte to a bit. The definitions it is held to, the cost of a string
-// and the nearest string stand in specs/.
+// The convolutional coder of the uplink, TS 103 357 clause 6.4.6.3: coded bits from bits, one byte to a bit. The
+// definitions it is held to, the cost of a string and the nearest string stand in specs/.
 #![tactic(auto)]
 
 ghost use Rattle.std.specs.Prelude.{map, ◌++◌, ◌≡◌, ◌+◌, ◌*◌, ◌≤◌, ◌<◌, length, drop};
@@ -7,7 +7,8 @@ ghost use Rattle.bits.specs.Bits.{bit, is_one, bits_of};
 ghost use Rattle.coder.specs.Coder.{outputs, coded, uplink_words};
 ghost use Rattle.coder.specs.Encode.{Entered, RunRoom, Ran};
 
-// The bit that enters the coder, highest, and the last six bits s: seven bits, of which the words select. A byte that is not 1 is the bit 0.
+// The bit that enters the coder, highest, and the last six bits s: seven bits, of which the words select. A byte that
+// is not 1 is the bit 0.
 fn window(s: u32, bit: u8) -> u32
     requires { s < 64 }
     ensures { Entered bit s result }
@@ -28,7 +29,8 @@ fn step_outputs(w: u32) -> [u8; 3]
     ]
 }
 
-// Codes a run of bits that enter after the six bits `before`, to the start of `out`. The result is the last six bits then.
+// Codes a run of bits that enter after the six bits `before`, to the start of `out`. The result is the last six bits
+// then.
 fn encode_run(before: u32, bits: &[u8], out: &mut [u8]) -> u32
     requires { RunRoom before bits.now out.old }
     ensures { Ran before bits.now out.old out.new result }
@@ -46,8 +48,8 @@ fn encode_run(before: u32, bits: &[u8], out: &mut [u8]) -> u32
     s
 }
 
-// The coded bits of a string of n bits, the six zeros that follow it included: 3 (n + 6) bytes, each 0 or 1, to the start of `out`. What lies beyond
-// them is kept. A byte of `bits` that is not 1 is the bit 0.
+// The coded bits of a string of n bits, the six zeros that follow it included: 3 (n + 6) bytes, each 0 or 1, to the
+// start of `out`. What lies beyond them is kept. A byte of `bits` that is not 1 is the bit 0.
 pub fn encode(bits: &[u8], out: &mut [u8])
     requires { 3 * (length bits.now + 6) ≤ length out.old }
     ensures { out.new ≡ map bit (coded uplink_words (map is_one bits.now)) ++ drop (3 * (length bits.now + 6)) out.old }

@@ -1,5 +1,7 @@
 // The C interface, as include/gloamstrother.h tells it: build and recover, the stored capture both ways, and the values
-// of a burst, each handing on just what the operation answers. None asks anything of its caller.
+// of a burst, each handing on just what the operation answers. None asks anything of its caller. C has no Result: an
+// answer becomes a struct whose first field is the refusal's number, 0 where there is none, and a finding becomes its
+// number.
 #![tactic(auto)]
 
 ghost use Rattle.uplink.specs.Build.{Builds};

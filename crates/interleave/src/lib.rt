@@ -1,5 +1,6 @@
-// Interleaving of the uplink, TS 103 357 clause 6.4.4.6, and its pilots, clause 6.4.2.1.1: which radio-burst and which symbol of it carries a coded bit, and
-// the way back. For reading and for tests: the frames as a whole are filled and gathered by the crate placing.
+// Interleaving of the uplink, TS 103 357 clause 6.4.4.6, and its pilots, clause 6.4.2.1.1: which radio-burst and which
+// symbol of it carries a coded bit, and the way back. For reading beside the clause: the frames as a whole are filled
+// and gathered by the crate placing.
 #![tactic(auto)]
 
 mod frames;
@@ -75,7 +76,7 @@ pub fn pilot_at(s: usize, p: usize) -> u8
     }
 }
 
-// A place among the 24 of a sub-packet.
+// A place among the 24 of a sub-packet. Not a Position: `order` counts these, and `symbol` the 36 of a burst.
 #[derive(Clone, Copy)]
 pub struct Slot {
     pub packet: usize,

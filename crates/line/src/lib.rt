@@ -136,7 +136,7 @@ pub fn report_line(input: &[u8], out: &mut [u8]) -> usize
 }
 
 // Reads to the end of the input, or until the buffer is full, and answers how many bytes of it are kept. A failed read
-// ends the input.
+// ends the input. How many reads there are is the input's to say, so that no `for` counts them.
 fn read_full<R: std::io::Read>(reader: &mut R, kept: &mut [u8]) -> usize
     ensures { result ≤ length kept.old }
 {

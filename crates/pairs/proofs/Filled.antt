@@ -13,13 +13,11 @@ use Rattle.std.proofs.lemmas.List.{places, set-append_left, set-append_right}
 use Rattle.interleave.specs.Interleave.{sub_packets, Placed, Length, DataSymbol, pilot}
 use Rattle.interleave.proofs.Placed.{placed_data, placed_unique}
 use Rattle.pairs.specs.Turns.{turn_of, fill_turn, IsSymbol, Filled}
-use Rattle.pairs.specs.Walks.{Walks}
 use Rattle.pairs.specs.Over.{Over}
 use Rattle.pairs.specs.declared.Walk.{Walk}
 use Rattle.pairs.proofs.Spread.{spread_one, spread_join, spread_turns}
 use Rattle.pairs.proofs.Turns.{turn_of_low, turn_of_high, turn_of_pilot, turn_of_below, turn_of_late}
 use Rattle.pairs.proofs.Turns.{fill_turn-at, fill_turn_injective}
-use Rattle.pairs.proofs.Walks.{walks_low, walks_high}
 
 -- a frame with the burst of sub-packet s in it
 abbrev pub with_burst : ℕ → List ℕ → List ℕ → List ℕ
@@ -91,27 +89,28 @@ module _ {l : ℕ} (coded : List ℕ) (long : Length l) where
       right)
 
   -- the coded bits of a pair of symbols, after what the turns before filled in
-  pub filled_pair : {s k e a b step t : ℕ} {frame : List ℕ} (burst : List ℕ)
+  pub filled_pair : {s k a b t : ℕ} {frame : List ℕ} (burst : List ℕ)
       → 36 * sub_packets l ≤ length frame
-      → Walks l s k e a b step
-      → k < e
       → length burst ≡ 36
+      → s < sub_packets l
+      → k < 12
+      → Placed l a s (11 - k)
+      → Placed l b s (24 + k)
       → t ≤ 36 * s + 2 * k
       → Filled l coded t (36 * s + 2 * k) frame (with_burst s frame burst)
       → Filled l coded t (36 * s + 2 * (k + 1)) frame
       (with_burst s frame (set (set burst (11 - k) (get_or coded a 0)) (24 + k) (get_or coded b 0)))
-  filled_pair {s} {k} {a = a} {frame = frame} burst room w more size from before =
-      let below : k < 12 = omega (arith, w.last) in
+  filled_pair {s} {k} {a} {frame = frame} burst room size packet below low high from before =
       let one : List ℕ = set burst (11 - k) (get_or coded a 0) in
       let sized : length one ≡ 36 = omega (arith, length-set burst (11 - k) (get_or coded a 0)) in
       let lower =
-      filled_symbol (36 * s + 2 * k) s (11 - k) _ frame burst room w.packet size (omega arith)
+      filled_symbol (36 * s + 2 * k) s (11 - k) _ frame burst room packet size (omega arith)
       (omega (arith, turn_of_low k below))
-      (is_symbol_bit (walks_low w more)) in
+      (is_symbol_bit low) in
       let higher =
-      filled_symbol (36 * s + 2 * k + 1) s (24 + k) _ frame one room w.packet sized (omega arith)
+      filled_symbol (36 * s + 2 * k + 1) s (24 + k) _ frame one room packet sized (omega arith)
       (omega (arith, turn_of_high k below))
-      (is_symbol_bit (walks_high w more)) in
+      (is_symbol_bit high) in
       spread_turns (spread_join (omega arith) (omega arith) before (spread_join (omega arith) (omega arith) lower higher)) refl
       (omega arith)
 

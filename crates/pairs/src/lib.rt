@@ -3,8 +3,8 @@
 // values of its pairs, and fills in their coded bits. Whole frames: the crate placing.
 #![tactic(auto)]
 
-ghost use Rattle.std.specs.Prelude.{cond, List, ◌≡◌, ℕ, ◌+◌, ◌*◌, ◌≤◌, ◌<◌, length, slice_index};
-ghost use Rattle.interleave.specs.Interleave.{coded_bits, sub_packets, pilot, Length};
+ghost use Rattle.std.specs.Prelude.{cond, List, ◌≡◌, ℕ, ◌+◌, ◌-◌, ◌*◌, ◌≤◌, ◌<◌, length, slice_index};
+ghost use Rattle.interleave.specs.Interleave.{coded_bits, sub_packets, Placed, pilot, Length};
 ghost use Rattle.pairs.specs.Walks.{Walks, CorePacket, ExtensionPacket};
 ghost use Rattle.pairs.specs.Turns.{Gathered, Filled};
 
@@ -97,6 +97,17 @@ impl Walk {
         }
     }
 
+    // The coded bits of pair k, below and above the pilot.
+    fn pair(self, k: usize) -> (usize, usize)
+        requires from { self.from ≤ k }
+        requires to { k < self.to }
+        ensures low { Placed self.l result.0 self.s (11 - k) }
+        ensures high { Placed self.l result.1 self.s (24 + k) }
+    {
+        let on = self.step * (k - self.from);
+        (self.low + on, self.high + on)
+    }
+
     // Gathers the values of the pairs.
     pub fn gather(self, heard: Heard, out: &mut [u8])
         requires message { self.l ≡ heard.l }
@@ -106,13 +117,10 @@ impl Walk {
     {
         let is_heard = heard.marks[self.s] == 1;
         let values = &heard.values[24 * self.s..24 * self.s + 24];
-        let mut low = self.low;
-        let mut high = self.high;
         for k in self.from..self.to {
+            let (low, high) = self.pair(k);
             out[low] = heard_or_zero(is_heard, values[11 - k]);
             out[high] = heard_or_zero(is_heard, values[12 + k]);
-            low += self.step;
-            high += self.step;
         }
     }
 
@@ -124,13 +132,10 @@ impl Walk {
             (36 * self.s + 2 * self.from) (36 * self.s + 2 * self.to) frame.old frame.new }
     {
         let burst = &mut frame[36 * self.s..36 * self.s + 36];
-        let mut low = self.low;
-        let mut high = self.high;
         for k in self.from..self.to {
+            let (low, high) = self.pair(k);
             burst[11 - k] = coded.bits[low];
             burst[24 + k] = coded.bits[high];
-            low += self.step;
-            high += self.step;
         }
     }
 }

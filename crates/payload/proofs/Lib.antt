@@ -6,4 +6,3 @@ pub mod Parts
 pub mod Putting
 pub mod Filling
 pub mod Taking
-pub mod Answers

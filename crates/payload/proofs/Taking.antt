@@ -62,15 +62,6 @@ module _ {bits : List ℕ} {at count x k : ℕ} (p : Reading bits at count x k) 
   pub reading_step : Reading bits at count (x * 2 + get_or (take (at + count - at) (drop at bits)) k 0) (k + 1)
   reading_step = record { number = rw (here, p.number) (sym (field_more bits at k part.binary (omega (arith, part.within, before)))) }
 
--- and at the end it is that of all of them
-pub reading_end : {bits : List ℕ} {at count x k : ℕ} → Reading bits at count x k → PartOf bits at count
-    → k ≤ length (take (at + count - at) (drop at bits)) → length (take (at + count - at) (drop at bits)) ≤ k → x ≡ number_of (take count (drop at (map is_one bits)))
-reading_end {bits} {at} {count} {x} {k} p part most least =
-    let size : at + count - at ≡ count = omega arith in
-    let long : length (take (at + count - at) (drop at bits)) ≡ count = rw size (length-take-le count (drop at bits) (rw length-drop (omega (arith, part.within)))) in
-    let e : k ≡ count = omega (arith, long) in
-    rw e at p.number
-
 -- the loop that takes the bytes of a message
 
 bytes_of_more : (i : ℕ) (bs : List Bool) → bytes_of (i + 1) bs ≡ bytes_of i bs ++ (number_of (take 8 (drop (8 * i) bs)) ∷ [])

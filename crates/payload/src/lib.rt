@@ -1,5 +1,6 @@
-// The fields of the PHY payload, TS 103 357 clauses 6.4.2.3 and 6.4.4.4, one byte to a bit: `compose` makes the payload bits of a message and a mode, and `open`
-// checks payload bits and takes the message out of them. The search, the whitening and the radio burst are left to others.
+// The fields of the PHY payload, TS 103 357 clauses 6.4.2.3 and 6.4.4.4, one byte to a bit: `compose` makes the payload
+// bits of a message and a mode, and `open` checks payload bits and takes the message out of them. The search, the
+// whitening and the radio burst are left to others.
 #![tactic(auto)]
 
 ghost use Rattle.std.specs.Prelude.{map, ◌++◌, ◌≡◌, ◌+◌, ◌*◌, ◌≤◌, ◌<◌, length, take, drop};
@@ -12,7 +13,8 @@ ghost use Rattle.payload.specs.Calls.{Composable, PartOf, Checkable, Openable, O
 
 use refusals::Refusal;
 
-// Puts the lowest N bits of x at `at`, the most significant first.
+// Puts the lowest N bits of x at `at`, the most significant first. The place goes beside the bits, here and below: what
+// is stored is a run behind a run, and the law of such runs speaks of places.
 fn put_bits<const N: usize>(x: u8, bits: &mut [u8], at: usize)
     requires byte { N ≤ 8 }
     requires room { at + N ≤ length bits.old }
@@ -41,7 +43,8 @@ fn put_body(message: &[u8], mode: u8, bits: &mut [u8])
     put_bits::<2>(mode, bits, 24 + 8 * message.len());
 }
 
-// The payload bits of a message of 20 to 255 bytes and a mode of two bits, 26 + 8 l bytes, each 0 or 1, to the start of `bits`. What lies beyond them is kept.
+// The payload bits of a message of 20 to 255 bytes and a mode of two bits, 26 + 8 l bytes, each 0 or 1, to the start of
+// `bits`. What lies beyond them is kept.
 pub fn compose(message: &[u8], mode: u8, bits: &mut [u8])
     requires { Composable message.now mode bits.old }
     ensures { bits.new ≡ map bit (payload message.now mode) ++ drop (payload_bits (length message.now)) bits.old }
@@ -54,7 +57,8 @@ pub fn compose(message: &[u8], mode: u8, bits: &mut [u8])
     put_bits::<8>(header_crc, bits, 0);
 }
 
-// The number that the `count` bits at `at` make, the most significant first.
+// The number that the `count` bits at `at` make, the most significant first. The place and the count are told, and not
+// the part lent: lent, each of the five calls would need a second promise, that its bytes are bits.
 fn number_at(bits: &[u8], at: usize, count: usize) -> u8
     requires byte { count ≤ 8 }
     requires part { PartOf bits.now at count }
@@ -95,9 +99,9 @@ fn check(bits: &[u8], l: usize) -> Result<(), Refusal>
     Ok(())
 }
 
-// Opens the payload bits of a message of l bytes, one byte to a bit, each 0 or 1: checks the header CRC, the PSI and the
-// payload CRC, in this order, and puts the message to the start of `message` once all three are right, and answers the mode.
-// What lies beyond it is kept, and so is the whole buffer where a check fails.
+// Opens the payload bits of a message of l bytes, one byte to a bit, each 0 or 1: checks the header CRC, the PSI and
+// the payload CRC, in this order, and puts the message to the start of `message` once all three are right, and answers
+// the mode. What lies beyond it is kept, and so is the whole buffer where a check fails.
 pub fn open(bits: &[u8], l: usize, message: &mut [u8]) -> Result<u8, Refusal>
     requires { Openable bits.now l message.old }
     ensures { Opening l bits.now message.old message.new result }

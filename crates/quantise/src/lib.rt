@@ -54,8 +54,8 @@ fn rounded(m: u32) -> u32
     ((mantissa << steps) + 0x100_0000) / 0x200_0000
 }
 
-// The magnitude with these bits to the nearest whole number, halves up, held at 127: below a quarter everything rounds to
-// 0, as a quarter does, and above 127 everything is held there.
+// The magnitude with these bits to the nearest whole number, halves up, held at 127: below a quarter everything rounds
+// to 0, as a quarter does, and above 127 everything is held there.
 fn rounded_and_held(m: u32) -> u32
     ensures { result ≡ held (nearest_whole (units_at m)) }
 {
@@ -74,7 +74,7 @@ fn value(b: u32) -> u8
     if b < SIGN {
         return r as u8;
     }
-    ((256 - r) % 256) as u8
+    (r as u8).wrapping_neg()
 }
 
 // Writes the values of 24 numbers to the start of `values`, and gives the greatest of their bits without signs.

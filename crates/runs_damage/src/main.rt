@@ -107,7 +107,8 @@ fn wrong_bits(rt: &impl Print, sent: &[u8; 20]) -> io::Result<()> {
     hear_payload(rt, "PSI bit 7 wrong, header CRC right", &psi_wrong, sent)
 }
 
-// Values on the wrong side, one after another, among weights of 60. Values 100 and 400 stand for a coded 1, and are -128.
+// Values on the wrong side, one after another, among weights of 60. Values 100 and 400 stand for a coded 1, and are
+// -128.
 fn wrong_sides(rt: &impl Print, sent: &[u8; 20]) -> io::Result<()> {
     let mut values = heard(&good_payload(sent), 60, 196);
     turn(&mut values, 100, 127, 128);

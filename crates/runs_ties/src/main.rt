@@ -9,7 +9,7 @@ ghost use Rattle.std.specs.Prelude.{◌+◌, ◌≤◌, ◌<◌, length};
 
 use std::io;
 
-// Lays 10110010 and 1111 over bytes at and at + 1.
+// Lays 10110010 and 1111 over bytes at and at + 1. A place and no length: the bytes around them stay.
 fn lay_over(message: &mut [u8], at: usize)
     requires { at + 1 < length message.old }
 {

@@ -22,7 +22,7 @@ use Rattle.rows.specs.Remaining.{facing, state_at, place_after, taken_at}
 use Rattle.rows.proofs.Decided.{state_at-after, place_after_below}
 use Rattle.search.specs.Search.{Filled, Found, kept_at, follow}
 
-module _ {values kept : List ℕ} {n total : ℕ} (f : Filled values n kept total) where
+module _ {values : List ℕ} {kept : List (List ℕ)} {n total : ℕ} (f : Filled values n kept total) where
   -- the machine's walk of k steps from place p at moment t
   abbrev onward : ℕ → ℕ → ℕ → List Bool
   onward k t p = walk (numbered uplink_words) k (facing (drop (3 * t) values) (state_at p))
@@ -63,12 +63,12 @@ module _ {values kept : List ℕ} {n total : ℕ} (f : Filled values n kept tota
       record { string = e ∙ ap (λ (x : List Bool). map bit x ++ drop n before) (follow-nearest l); costs = f.costs }
 
 -- the loop that goes forward: the bits of the moments before t are written, and what is still to come from this place is the rest of the whole
-pub record Walking (kept : List ℕ) (n t place : ℕ) (bits : List ℕ) : Type 0 where
+pub record Walking (kept : List (List ℕ)) (n t place : ℕ) (bits : List ℕ) : Type 0 where
   pub within : place < 64
   pub whole : (k : ℕ) → k + t ≡ n → take t bits ++ map bit (follow kept k t place) ≡ map bit (follow kept n 0 0)
 
 pub walking_step :
-    {kept bits : List ℕ} {n t p : ℕ} → Walking kept n t p bits → t < length bits
+    {kept : List (List ℕ)} {bits : List ℕ} {n t p : ℕ} → Walking kept n t p bits → t < length bits
     → Walking kept n (t + 1) (place_after p (kept_at kept t p)) (set bits t (kept_at kept t p))
 unfolding follow
 walking_step {kept} {bits} {n} {t} {p} w h = record { within = omega arith; whole = λ k e. onward k e }
@@ -87,7 +87,7 @@ walking_step {kept} {bits} {n} {t} {p} w h = record { within = omega arith; whol
         ∙ w.whole (suc k) (omega arith)
 
 pub walking_end :
-    {kept bits : List ℕ} {t p : ℕ} → Walking kept (length bits) t p bits → t ≡ length bits
+    {kept : List (List ℕ)} {bits : List ℕ} {t p : ℕ} → Walking kept (length bits) t p bits → t ≡ length bits
     → bits ≡ map bit (follow kept (length bits) 0 0)
 unfolding follow
 walking_end {bits = bits} w e = sym (take_all _ bits (omega arith)) ∙ sym (append-nil _) ∙ w.whole 0 (omega arith)

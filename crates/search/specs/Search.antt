@@ -17,14 +17,13 @@ pub record Found (values : List ℕ) (n : ℕ) (before after : List ℕ) (total 
   pub string : after ≡ map bit (nearest (cost uplink_words values) n) ++ drop n before
   pub costs : total ≡ cost uplink_words values (nearest (cost uplink_words values) n)
 
--- one step back in time is one step more of the machine on 64 numbers, whatever follows: its costs in the row, its decisions in the lowest bits of the words from a place on, and no other word is changed. It raises no cost by more than 384
-pub record Turn (a b c : ℕ) (row kept : List ℕ) (place : ℕ) (row' kept' : List ℕ) : Type 0 where
+-- one step back in time is one step more of the machine on 64 numbers, whatever follows: its costs in the row,
+-- its decisions in the lowest bits of the words. It raises no cost by more than 384
+pub record Turn (a b c : ℕ) (row kept row' kept' : List ℕ) : Type 0 where
   pub costs : (rest : List ℕ) (k off : ℕ) → Costs rest k row off → Costs (a ∷ b ∷ c ∷ rest) (suc k) row' off
   pub chosen :
       (rest : List ℕ) (k off : ℕ) → Costs rest k row off → (p : ℕ) → p < 64
-      → get_or kept' (place + p) 0 ≡ 2 * (get_or kept (place + p) 0 % 32768) + bit (taken (a ∷ b ∷ c ∷ rest) k p)
-  pub sized : length kept' ≡ length kept
-  pub above : (i : ℕ) → place + 64 ≤ i → get_or kept' i 0 ≡ get_or kept i 0
+      → get_or kept' p 0 ≡ 2 * (get_or kept p 0 % 32768) + bit (taken (a ∷ b ∷ c ∷ rest) k p)
   pub rise : (most : ℕ) → ((s : ℕ) → s < 64 → get_or row s 0 ≤ most) → (s : ℕ) → s < 64 → get_or row' s 0 ≤ most + 384
 
 -- a row none of whose costs is lower than the first by more than 2,304, and a sum that fits
@@ -43,23 +42,16 @@ pub record Leveled (row : List ℕ) (off t : ℕ) (row' : List ℕ) (off' : ℕ)
 abbrev pub last_row : List ℕ
 last_row = 0 ∷ replicate 63 2304
 
--- the decision kept for moment t at place p: 64 words for sixteen moments, the first in the lowest bit
-abbrev pub kept_at : List ℕ → ℕ → ℕ → ℕ
-kept_at kept t p = get_or kept (t / 16 * 64 + p) 0 / 2 ^ (t % 16) % 2
+-- the decision kept for moment t at place p: a row of 64 words for sixteen moments, the first in the lowest bit
+abbrev pub kept_at : List (List ℕ) → ℕ → ℕ → ℕ
+kept_at kept t p = get_or (get_or kept (t / 16) []) p 0 / 2 ^ (t % 16) % 2
 
 -- all decisions of n steps and of the six that follow are kept, and the total is what the nearest string costs
-pub record Filled (values : List ℕ) (n : ℕ) (kept : List ℕ) (total : ℕ) : Type 0 where
-  pub sized : length kept ≡ 8320
+pub record Filled (values : List ℕ) (n : ℕ) (kept : List (List ℕ)) (total : ℕ) : Type 0 where
   pub words : (t p : ℕ) → p < 64 → t < n + 6 → kept_at kept t p ≡ bit (taken_at values n t p)
   pub costs : total ≡ cost uplink_words values (nearest (cost uplink_words values) n)
 
--- decisions for n steps, and room for their bits
-pub record Kept (kept : List ℕ) (n : ℕ) (bits : List ℕ) : Type 0 where
-  pub sized : length kept ≡ 8320
-  pub most : n ≤ 2066
-  pub room : n ≤ length bits
-
 -- the bits taken on the way of k steps from place p at moment t
-unfoldable pub follow : List ℕ → ℕ → ℕ → ℕ → List Bool
+unfoldable pub follow : List (List ℕ) → ℕ → ℕ → ℕ → List Bool
 follow kept zero t p = []
 follow kept (suc k) t p = is_one (kept_at kept t p) ∷ follow kept k (t + 1) (place_after p (kept_at kept t p))

@@ -6,16 +6,15 @@
 ghost use Rattle.std.specs.Prelude.{Bool, map, ◌++◌, ◌≡◌, ◌+◌, ◌-◌, ◌*◌, ◌≤◌, length, drop};
 ghost use Rattle.bits.specs.Bits.{bit};
 ghost use Rattle.rows.specs.Rows.{Low};
-ghost use Rattle.search.specs.Search.{Turn, Spread, Leveled, Heard, Filled, Kept, last_row, follow, Found};
+ghost use Rattle.search.specs.Search.{Turn, Spread, Leveled, Heard, Filled, last_row, follow, Found};
 
-// The words of the decisions: 64 for each sixteen moments, of which there are at most 2,072.
-const KEPT: usize = 8320;
+// The rows of decisions: 64 words for each sixteen moments, of which there are at most 2,072.
+const KEPT: usize = 130;
 
 // One step back in time, against the three values of the step: the row before it; the decisions go into the 64 words.
-fn turn(row: [u16; 64], a: u8, b: u8, c: u8, kept: &mut [u16]) -> [u16; 64]
-    requires low { Low row }
-    requires sized { length kept.old ≡ 64 }
-    ensures { Turn a b c row kept.old 0 result kept.new }
+fn turn(row: [u16; 64], a: u8, b: u8, c: u8, kept: &mut [u16; 64]) -> [u16; 64]
+    requires { Low row }
+    ensures { Turn a b c row kept.old result kept.new }
 {
     let weighed = step::weigh(a, b, c);
     let moves = step::sums(row, weighed);
@@ -55,8 +54,8 @@ fn last_row() -> [u16; 64]
 }
 
 // Keeps every decision of n steps and the six that follow, sixteen moments in a word, and gives the cost of the nearest
-// string.
-fn fill(values: &[u8], n: usize, kept: &mut [u16; KEPT]) -> u32
+// string. The bits are not written here, so that n is told.
+fn fill(values: &[u8], n: usize, kept: &mut [[u16; 64]; KEPT]) -> u32
     requires { Heard values.now n }
     ensures { Filled values.now n kept.new result }
 {
@@ -65,13 +64,12 @@ fn fill(values: &[u8], n: usize, kept: &mut [u16; KEPT]) -> u32
         off: 0,
     };
     for t in (0..n + 6).rev() {
-        let at = t / 16 * 64;
         let least = turn(
             level.row,
             values[3 * t],
             values[3 * t + 1],
             values[3 * t + 2],
-            &mut kept[at..at + 64],
+            &mut kept[t / 16],
         );
         level = leveled(least, level.off, t);
     }
@@ -80,27 +78,27 @@ fn fill(values: &[u8], n: usize, kept: &mut [u16; KEPT]) -> u32
 
 // Walks forward through the decisions from state 0 and writes the bits that are taken. A place is where a state's
 // decision stands.
-fn walk(kept: &[u16; KEPT], bits: &mut [u8])
-    requires { Kept kept.now (length bits.old) bits.old }
+fn walk(kept: &[[u16; 64]; KEPT], bits: &mut [u8])
+    requires { length bits.old ≤ 2066 }
     ensures { bits.new ≡ map bit (follow kept.now (length bits.old) 0 0) }
 {
     let mut place = 0;
     for (t, bit) in bits.iter_mut().enumerate() {
-        let word = kept[t / 16 * 64 + place];
+        let word = kept[t / 16][place];
         let b = (word >> (t % 16)) % 2;
         *bit = b as u8;
-        place = place % 32 % 2 * 32 + place % 32 / 2 + (b as usize) * 16;
+        place = place % 32 % 2 * 32 + place % 32 / 2 + usize::from(b) * 16;
     }
 }
 
 // The nearest string of n bits to the values of its coded bits, as the coder took it, one byte a bit, and its cost.
-// Bytes of bits from n on are kept.
+// Bytes of bits from n on are kept: what is promised of them (docs/PROMISES.md names it) needs n beside the bits.
 pub fn search(values: &[u8], n: usize, bits: &mut [u8]) -> u32
     requires heard { Heard values.now n }
     requires n_in_bounds { n ≤ length bits.old }
     ensures { Found values.now n bits.old bits.new result }
 {
-    let mut kept = [0u16; KEPT];
+    let mut kept = [[0u16; 64]; KEPT];
     let cost = fill(values, n, &mut kept);
     walk(&kept, &mut bits[..n]);
     cost

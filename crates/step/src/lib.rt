@@ -19,7 +19,8 @@ fn against(v: u8) -> (u16, u16)
 }
 
 // What a step costs: that of taking 0 in the first 16 even states, what is left of the whole by taking 0 in the other
-// 16, and the weight of all three values.
+// 16, and the weight of all three values. Two rows and not pairs, since the processor takes eight costs of a row at
+// once.
 #[derive(Clone, Copy)]
 pub struct Weighed {
     pub low: [u16; 16],
@@ -118,9 +119,8 @@ pub fn minima(m: Moves) -> [u16; 64]
 }
 
 // The decisions kept in 64 words, moved up by one bit, with this step's in the lowest.
-pub fn choices(m: Moves, kept: &mut [u16])
-    requires within { Within m.zero m.one }
-    requires sized { length kept.old ≡ 64 }
+pub fn choices(m: Moves, kept: &mut [u16; 64])
+    requires { Within m.zero m.one }
     ensures { Chosen 64 m.zero m.one kept.old 0 kept.new }
 {
     for (p, word) in kept.iter_mut().enumerate() {

@@ -2,12 +2,12 @@
 -- Assumes nothing.
 use mathlib.Core.Bool.{Bool, cond}
 use mathlib.Core.List.{List, ◌++◌, map}
-use mathlib.Core.Path.{◌≡◌, refl, sym, ap, ◌∙◌}
+use mathlib.Core.Path.{◌≡◌, sym, ap, ◌∙◌}
 use Prim.Native.Nat.{ℕ, ◌+◌, ◌*◌}
 use native.Mathlib.Omega.{arith}
-use borrow.Author.Tests.{eq-eqb, ne_eqb}
+use borrow.Author.Tests.{eq-eqb}
 use lib.ListN.{length, take, drop, length-map, get_or-append}
-use lib.Seq.{take_at, length_front}
+use lib.Seq.{take_at}
 use Rattle.bits.specs.Bits.{bit, is_one}
 use Rattle.bits.proofs.Bits.{map-is_one-map-bit}
 use Rattle.coder.specs.Coder.{coded, uplink_words}
@@ -19,18 +19,11 @@ use Rattle.interleave.specs.Bursts.{Bursts}
 use Rattle.payload.specs.Payload.{payload, payload_bits}
 use Rattle.payload.proofs.Payload.{length-payload}
 use Rattle.placing.specs.Placing.{Framed}
-use Rattle.std.specs.Prelude.{Ok, Err}
-use Rattle.refusals.specs.declared.Refusal.{Refusal}
-use Rattle.refusals.specs.Refusals.{number}
-use Rattle.refusals.proofs.Refusals.{number_not_zero}
+use Rattle.std.specs.Prelude.{Ok}
 use Rattle.uplink.specs.Frame.{coded_payload}
 use Rattle.uplink.specs.Build.{frame_size, build_refusal, Builds}
 use Rattle.uplink.specs.Parts.{Put}
 use Rattle.uplink.proofs.Taken.{build_taken}
-
--- a buffer whose first part was lent and came back is as long as before
-pub relent : (whole part : List ℕ) (n : ℕ) → length part ≡ length (take n whole) → length (part ++ drop n whole) ≡ length whole
-relent whole part n e = length_front whole part n e
 
 -- only the coded bits count for the bursts
 bursts_front : {l : ℕ} (bits rest : List ℕ) {frame : List ℕ} → length bits ≡ coded_bits l → Bursts l (bits ++ rest) frame → Bursts l bits frame
@@ -82,18 +75,6 @@ module _ (message : List ℕ) (mode : ℕ) (told : Length (length message)) wher
       framed = rw (k ∙ ap (λ (x : List Bool). map bit (coded uplink_words x) ++ drop (3 * (length (take (26 + 8 * length message) (part ++ drop (26 + 8 * length message) bits)) + 6)) coded₀) sent) at f.frame
 
 module _ {l mode : ℕ} {message before : List ℕ} where
-  pub builds_refused : (r : Refusal) → number r ≡ build_refusal l mode (length message) (length before) → Builds l mode message before before (Err r)
-  builds_refused r e =
-      let d : build_refusal l mode (length message) (length before) ≡ 0 → ⊥ = λ z. number_not_zero r (e ∙ z) in
-      record {
-        refusal = e;
-        size = sym (ap (λ (t : Bool). cond t (frame_size l) 0) (ne_eqb (build_refusal l mode (length message) (length before)) 0 d));
-        sized = refl;
-        frame = λ z. absurd (d z);
-        rest = λ z. refl;
-        kept = λ z. refl;
-      }
-
   pub builds_done : {after : List ℕ} → build_refusal l mode (length message) (length before) ≡ 0 → Put message mode before after → Builds l mode message before after (Ok (36 * (l + 4)))
   builds_done {after} z p =
       let same : length message ≡ l = (build_taken l mode (length message) (length before) z).sized in

@@ -25,7 +25,6 @@ use Rattle.payload.specs.Open.{open_refusal, message_of, mode_of}
 use Rattle.payload.specs.Calls.{Opening}
 use Rattle.std.specs.Prelude.{Ok, Err}
 use Rattle.refusals.specs.declared.Refusal.{Refusal}
-use Rattle.refusals.specs.Refusals.{number}
 use Rattle.refusals.proofs.Refusals.{number_not_zero}
 use Rattle.search.specs.Search.{Found}
 use Rattle.uplink.specs.Recover.{silent, nearest_string, nearest_cost, opened, recover_refusal, Recovers}
@@ -87,11 +86,6 @@ pub map-bit_binary : (xs : List Bool) (i : ℕ) → i < length (map bit xs) → 
 map-bit_binary xs i h = subst (λ (v : ℕ). v < 2) (sym (get_or-map bit xs i false)) (bit_below_two (get_or xs i false))
 
 module _ {l : ℕ} {marks values : List ℕ} (before : List ℕ) where
-  pub recovers_form : (r : Refusal) → recover_refusal l marks values (length before) ≡ number r → Recovers l marks values before before (Err r)
-  recovers_form r e =
-      let n : eqb (recover_refusal l marks values (length before)) 0 ≡ false = ne_eqb (recover_refusal l marks values (length before)) 0 (λ z. number_not_zero r (sym e ∙ z)) in
-      record { refusal = sym e; told = rw n; mode = rw n; weight = rw n; message = rw n }
-
   module _ (f : Formed l marks values (length before)) (s : silent marks values ≡ false) {bits₀ bits : List ℕ} {total : ℕ} (p : Nearing l marks values bits₀ bits total) where
     opens_as : recover_refusal l marks values (length before) ≡ open_refusal l (map is_one (take (26 + 8 * l) bits))
     opens_as = recover_opening l marks values (length before) f s ∙ ap (open_refusal l) (sym (nearing_bits l marks values p))

@@ -1,4 +1,5 @@
-// Building and recovering the uplink frame of a message, document 01. Neither asks anything of its caller: what cannot be taken is refused by its number.
+// Building and recovering the uplink frame of a message, document 01. Neither asks anything of its caller: what cannot
+// be taken is refused by its number.
 #![tactic(auto)]
 
 pub mod judge;
@@ -34,8 +35,8 @@ fn put_frame(mode: u8, message: &[u8], frame: &mut [u8])
     placing::fill(Coded { l, bits: &coded }, frame);
 }
 
-// The frame of a message of l bytes and its mode, 36 (l + 4) bytes, each 0 or 1, to the start of `frame`, and how many they
-// are; or the first refusal that holds of 1, 2, 3, 4, and then nothing is written.
+// The frame of a message of l bytes and its mode, 36 (l + 4) bytes, each 0 or 1, to the start of `frame`, and how many
+// they are; or the first refusal that holds of 1, 2, 3, 4, and then nothing is written.
 pub fn build(l: u64, mode: u64, message: &[u8], frame: &mut [u8]) -> Result<u32, Refusal>
     ensures { Builds l mode message.now frame.old frame.new result }
 {
@@ -57,8 +58,8 @@ fn nearest_payload(heard: Heard, bits: &mut [u8; 2066]) -> u32
     cost
 }
 
-// The message behind the nearest string, l bytes to the start of `message`, with its mode and cost; or the first refusal
-// that holds of 1, 2, 3, 5, 6, 7, 8, 9, and then nothing is written.
+// The message behind the nearest string, l bytes to the start of `message`, with its mode and cost; or the first
+// refusal that holds of 1, 2, 3, 5, 6, 7, 8, 9, and then nothing is written.
 pub fn recover(
     l: u64,
     marks: &[u8],

@@ -35,8 +35,8 @@ fn apply_period(bits: &mut [u8])
     }
 }
 
-// Whitens a run of bits where it lies, one byte to a bit: w(0) meets the first. A byte that is not 1 counts as 0; afterwards
-// each byte is 1 or 0.
+// Whitens a run of bits where it lies, one byte to a bit: w(0) meets the first. A byte that is not 1 counts as 0;
+// afterwards each byte is 1 or 0.
 pub fn apply(bits: &mut [u8])
     ensures { bits.new ≡ map bit (whitened (map is_one bits.old)) }
 {

@@ -4,7 +4,6 @@ use Rattle.interleave.specs.declared.frames.Heard.{Heard}
 use Rattle.uplink.specs.Parts.{HeardOf}
 use Rattle.capture.specs.Writing.{write_refusal}
 use Rattle.capture.proofs.Refusals.{write_taken}
-use Rattle.capture.proofs.Answering.{writes_done, writes_of}
 use Rattle.capture.proofs.write.Goals as goal
 
 -- a call that is not refused, by what was heard of it
@@ -15,8 +14,3 @@ pub put_capture-requires : goal.put_capture-requires
 put_capture-requires c =
     let h = c.in_ok-heard.heard in
     (write_taken h.l h.marks.now h.values.now (length c.args.capture.now) (sym (taken (length c.args.capture.now) c.in_ok-heard.ensures.heard c.in_ok-heard.ensures.refusal))).roomy
-
-pub returns : goal.returns
-returns c =
-    let of = c.in_ok-heard.ensures.heard in
-    writes_of of (writes_done (sym (taken (length c.args.capture.now) of c.in_ok-heard.ensures.refusal)) c.put_capture.ensures)

@@ -10,4 +10,4 @@ use Rattle.crc.proofs.crc8_step.Goals as goal
 pub returns : goal.returns
 returns c =
     let met = is_one c.args.bit in
-    crc8_step_overlay c.args.register met (search rules) (c.from.ensures ∙ bool_byte-bit met)
+    rw c.from-wide.ensures (crc8_step_overlay c.args.register met (search rules) (c.from.ensures ∙ bool_byte-bit met))

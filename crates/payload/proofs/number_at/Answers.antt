@@ -1,6 +1,6 @@
 -- `payload::number_at` doubles the number and adds a bit at each turn (`Reading`). Assumes nothing.
 use Rattle.std.proofs.Common.{arith}
-use Rattle.payload.proofs.Taking.{reading_start, reading_below, reading_bit, reading_step, reading_end}
+use Rattle.payload.proofs.Taking.{reading_start, reading_below, reading_bit, reading_step}
 use Rattle.payload.proofs.number_at.Goals as goal
 
 pub loop-bit-init : goal.loop-bit-init
@@ -20,6 +20,3 @@ overflow_add-x c =
 
 pub loop-bit-preserved : goal.loop-bit-preserved
 loop-bit-preserved c = reading_step c.loop-bit.invariant c.requires.part c.loop-bit-test.true
-
-pub returns : goal.returns
-returns c = reading_end c.loop-bit.invariant c.requires.part c.loop-bit.auto.bit-index-end c.loop-bit-test.false

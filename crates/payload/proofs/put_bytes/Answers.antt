@@ -1,5 +1,4 @@
--- `payload::put_bytes` meets its contract. The loop's invariant: the bits of the bytes before i are stored (`Putting`).
--- The measure is what is left of the message. Assumes nothing.
+-- `payload::put_bytes` meets its contract: the bits of one byte more at each turn (`Putting`). Assumes nothing.
 use native.Mathlib.Omega.{arith}
 use Rattle.payload.proofs.Putting.{putting_start, putting_step}
 use Rattle.payload.proofs.put_bytes.Goals as goal

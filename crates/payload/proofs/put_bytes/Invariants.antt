@@ -1,4 +1,4 @@
--- `payload::put_bytes` meets its contract. The loop's invariant: the bits of the bytes before i are stored (`Putting`). Assumes nothing.
+-- The loop of `payload::put_bytes`: the bits of the bytes before i are stored (`Putting`). Assumes nothing.
 use Rattle.payload.proofs.Putting.{Putting}
 use Rattle.payload.proofs.put_bytes.Given as goal
 

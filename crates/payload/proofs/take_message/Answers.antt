@@ -1,5 +1,4 @@
--- `payload::take_message` meets its contract. The loop's invariant: the bytes before i are written (`Taking`).
--- The measure is what is left of the message. Assumes nothing.
+-- `payload::take_message` meets its contract: one byte more at each turn (`Taking`). Assumes nothing.
 use native.Mathlib.Omega.{arith}
 use Rattle.payload.proofs.Taking.{taking_start, taking_step}
 use Rattle.payload.proofs.take_message.Goals as goal

@@ -1,4 +1,4 @@
--- `payload::take_message` meets its contract. The loop's invariant: the bytes before i are written (`Taking`). Assumes nothing.
+-- The loop of `payload::take_message`: the bytes before i are written (`Taking`). Assumes nothing.
 use Rattle.payload.proofs.Taking.{Taking}
 use Rattle.payload.proofs.take_message.Given as goal
 

@@ -1,5 +1,4 @@
--- `quantise::take_in` meets its contract. The loop's invariant, `Filling`: the values of the numbers before i are written.
--- Assumes nothing.
+-- `quantise::take_in` meets its contract: one number more at each turn. Assumes nothing.
 use mathlib.Core.Path.{◌∙◌}
 use native.Mathlib.Omega.{arith}
 use Rattle.quantise.proofs.Filling.{ord_max_max, filling_start, filling_step}

@@ -1,5 +1,4 @@
--- `quantise::take_in` meets its contract. The loop's invariant, `Filling`: the values of the numbers before i are written.
--- Assumes nothing.
+-- The loop of `quantise::take_in`: the values of the numbers before i are written (`Filling`). Assumes nothing.
 use Rattle.quantise.proofs.Filling.{Filling}
 use Rattle.quantise.proofs.take_in.Given as goal
 

@@ -5,7 +5,7 @@ use Rattle.search.proofs.Follow.{walking_step, walking_end}
 use Rattle.search.proofs.walk.Goals as goal
 
 pub loop-t-preserved : goal.loop-t-preserved
-loop-t-preserved c = walking_step c.loop-t.invariant (omega arith)
+loop-t-preserved c = rw c.from.ensures (walking_step c.loop-t.invariant (omega arith))
 
 pub returns : goal.returns
 returns c = rw c.loop-t.auto.bits at (walking_end (rw (sym c.loop-t.auto.bits) at c.loop-t.invariant) (omega arith))

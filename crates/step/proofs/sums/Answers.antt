@@ -1,4 +1,4 @@
--- `step::sums` meets its contract: after j turns the first j pairs of either half are summed. Assumes nothing.
+-- `step::sums` meets its contract: two pairs more at each turn. Assumes nothing.
 use mathlib.Core.Path.{◌≡◌, refl}
 use native.Mathlib.Omega.{arith}
 use Rattle.rows.proofs.Fill.{summing_none, summing_more, summing_end}

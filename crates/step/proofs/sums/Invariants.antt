@@ -1,4 +1,4 @@
--- `step::sums` meets its contract: after j turns the first j pairs of either half are summed. Assumes nothing.
+-- The loop of `step::sums`: after j turns the first j pairs of either half are summed. Assumes nothing.
 use Rattle.rows.proofs.Fill.{Summing}
 use Rattle.step.proofs.sums.Given as goal
 

@@ -1,4 +1,4 @@
--- `capture::reading::after_marks` meets its contract: the heads still to be seen decide. Assumes nothing.
+-- `capture::reading::after_marks` meets its contract: one head more, right or wrong. Assumes nothing.
 use mathlib.Core.List.{List}
 use mathlib.Core.Path.{sym, ap, ◌∙◌}
 use Prim.Native.Nat.{ℕ, ◌*◌}

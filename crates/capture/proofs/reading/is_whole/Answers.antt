@@ -1,11 +1,11 @@
 -- `capture::reading::is_whole` meets its contract: size and heads decide (`Whole`). Assumes nothing.
 use mathlib.Core.List.{List}
 use mathlib.Core.Path.{◌≡◌, sym, ap, ◌∙◌}
-use Prim.Native.Nat.{ℕ, ◌+◌, ◌-◌}
+use Prim.Native.Nat.{ℕ, ◌+◌, ◌-◌, ◌/◌}
 use native.Mathlib.Omega.{arith}
-use lib.ListN.{length, take, drop}
+use lib.ListN.{length, take, drop, length-drop}
 use Rattle.capture.specs.Reading.{same_bytes}
-use Rattle.capture.specs.Parts.{head_of, heads}
+use Rattle.capture.specs.Parts.{head_of}
 use Rattle.capture.proofs.Heads.{tail_part}
 use Rattle.capture.proofs.Whole.{whole_wrong_size, whole_wrong_head, whole-heads}
 use Rattle.capture.proofs.reading.is_whole.Goals as goal
@@ -24,7 +24,10 @@ returns-then-not-is_head c =
 
 pub returns : goal.returns
 returns c =
+    let l = c.args.l in
+    let bytes = c.args.c.now in
+    let count : length (take (length bytes - (11 + l)) (drop (11 + l) bytes)) / 27 ≡ l + 4 =
+    omega (arith, ap length (tail_part (11 + l) bytes), length-drop (11 + l) bytes) in
     c.after_marks.ensures
-    ∙ ap (heads (c.args.l + 4)) (tail_part (11 + c.args.l) c.args.c.now)
-    ∙ sym (whole-heads c.requires (omega arith)
-    (head-lent c.args.l c.args.c.now ∙ sym c.is_head.ensures ∙ c.if-not-is_head.false))
+    ∙ rw (count, tail_part (11 + l) bytes)
+    (sym (whole-heads c.requires (omega arith) (head-lent l bytes ∙ sym c.is_head.ensures ∙ c.if-not-is_head.false)))

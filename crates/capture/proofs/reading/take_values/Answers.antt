@@ -1,13 +1,10 @@
--- `capture::reading::take_values` meets its contract. The loop's invariant: the values of the fields before s are taken (`Taking`). Assumes nothing.
+-- `capture::reading::take_values` meets its contract: the values of one field more. Assumes nothing.
 use native.Mathlib.Omega.{arith}
-use Rattle.capture.proofs.Storing.{taking_start, taking_fits, taking_step, taking_end}
+use Rattle.capture.proofs.Storing.{taking_start, taking_step, taking_end}
 use Rattle.capture.proofs.reading.take_values.Goals as goal
 
 pub loop-s-init : goal.loop-s-init
-loop-s-init c = taking_start c.requires
-
-pub copy_in-requires : goal.copy_in-requires
-copy_in-requires c = taking_fits c.loop-s.invariant (omega arith)
+loop-s-init c = taking_start (record { sized = omega arith; room = c.requires })
 
 pub loop-s-preserved : goal.loop-s-preserved
 loop-s-preserved c = taking_step c.loop-s.invariant (omega arith) c.copy_in.ensures

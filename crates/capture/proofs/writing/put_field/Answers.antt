@@ -3,4 +3,4 @@ use Rattle.capture.proofs.Storing.{appends_field}
 use Rattle.capture.proofs.writing.put_field.Goals as goal
 
 pub returns : goal.returns
-returns c = appends_field c.copy_in-next.ensures c.copy_in.ensures
+returns c = appends_field (rw (← c.head.ensures) c.copy_in-next.ensures) c.copy_in.ensures

@@ -31,13 +31,3 @@ returns-then-is_silent c =
     recover_silence a.l a.marks.now a.values.now a.room
     (formed_of h of (omega (arith, of.told)) (sym c.marks_good.ensures ∙ c.if-not-marks_good.false))
     (silent_of h of (sym c.is_silent.ensures ∙ c.if-is_silent.true))
-
-pub returns : goal.returns
-returns c =
-    let h = c.in_ok-heard.heard in
-    let of = c.in_ok-heard.ensures.heard in
-    record {
-      of = of;
-      formed = formed_of h of (omega (arith, of.told)) (sym c.marks_good.ensures ∙ c.if-not-marks_good.false);
-      something = silent_of h of (sym c.is_silent.ensures ∙ c.if-is_silent.false);
-    }
