@@ -9,7 +9,7 @@ use lib.Seq.{length-take-le}
 use Rattle.capture.specs.Capture.{field, packets}
 use Rattle.capture.specs.Reading.{values_from}
 use Rattle.buffers.specs.Buffers.{Appends}
-use Rattle.capture.specs.Parts.{FieldFits, PacketsFit, ValuesFit}
+use Rattle.capture.specs.Parts.{FieldFits}
 use Rattle.buffers.proofs.Appending.{appends_none, appends_then, appends_length, appends_front}
 use Rattle.capture.proofs.Packets.{packets_more, values_from_more, length-packets, length-values_from}
 
@@ -23,14 +23,19 @@ appends_field p q = appends_then p q
 width : (from : ℕ) → from + 24 - from ≡ 24
 width from = omega arith
 
+-- at least the values of so many fields, and room for the fields
+pub record Storable (count : ℕ) (values out : List ℕ) (at : ℕ) : Type 0 where
+  pub sized : 24 * count ≤ length values
+  pub room : at + 27 * count ≤ length out
+
 -- before field s: the fields before it are stored
 pub record Storing (count : ℕ) (values old out : List ℕ) (at next s : ℕ) : Type 0 where
   pub within : s ≤ count
-  pub fits : PacketsFit count values old at
+  pub fits : Storable count values old at
   pub sized : length out ≡ length old
   pub done : Appends old at (packets s values) out next
 
-pub storing_start : {count : ℕ} {values old : List ℕ} {at : ℕ} → PacketsFit count values old at → Storing count values old old at at 0
+pub storing_start : {count : ℕ} {values old : List ℕ} {at : ℕ} → Storable count values old at → Storing count values old old at at 0
 unfolding packets
 storing_start {old = old} {at = at} f = record { within = omega arith; fits = f; sized = refl; done = appends_none old at }
 
@@ -59,14 +64,19 @@ storing_end {count} {s = s} p h =
     let e : s ≡ count = omega (arith, p.within) in
     rw e at p.done
 
+-- at least so many fields of values, and room for the values
+pub record Takeable (count : ℕ) (c values : List ℕ) : Type 0 where
+  pub sized : 27 * count ≤ length c
+  pub room : 24 * count ≤ length values
+
 -- before field s: the values of the fields before it are taken
 pub record Taking (count : ℕ) (c old out : List ℕ) (s : ℕ) : Type 0 where
   pub within : s ≤ count
-  pub fits : ValuesFit count c old
+  pub fits : Takeable count c old
   pub sized : length out ≡ length old
   pub done : Appends old 0 (values_from s c) out (24 * s)
 
-pub taking_start : {count : ℕ} {c old : List ℕ} → ValuesFit count c old → Taking count c old old 0
+pub taking_start : {count : ℕ} {c old : List ℕ} → Takeable count c old → Taking count c old old 0
 unfolding values_from
 taking_start {old = old} f = record { within = omega arith; fits = f; sized = refl; done = appends_none old 0 }
 

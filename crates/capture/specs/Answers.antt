@@ -1,5 +1,5 @@
--- What each answer says, in document 01's numbers: refusal 0 where it is done, and then the number that it answers; else
--- the refusal's number, and the other is 0.
+-- What each answer says, in document 01's numbers: refusal 0 where it is done, and then the number that it answers;
+-- else the refusal's number, and the other is 0.
 -- To be believed: all of it. Assumes nothing.
 use Rattle.std.specs.Prelude.{ℕ, Result}
 use Rattle.refusals.specs.declared.Refusal.{Refusal}

@@ -10,11 +10,6 @@ pub record FieldFits (value out : List ℕ) (at : ℕ) : Type 0 where
   pub two_bytes : length value < 65536
   pub room : at + (3 + length value) ≤ length out
 
--- the values of so many fields, and room for the fields
-pub record PacketsFit (count : ℕ) (values out : List ℕ) (at : ℕ) : Type 0 where
-  pub sized : 24 * count ≤ length values
-  pub room : at + 27 * count ≤ length out
-
 -- marks and values that can be written, and room for their capture
 pub record Writable (l : ℕ) (marks values : List ℕ) (room : ℕ) : Type 0 where
   pub told : Length l
@@ -41,8 +36,3 @@ pub record Opening (l : ℕ) (c : List ℕ) : Type 0 where
   pub told : Length l
   pub first : first_field c ≡ true
   pub value : told_in c ≡ l
-
--- fields of values, and room for the values
-pub record ValuesFit (count : ℕ) (c values : List ℕ) : Type 0 where
-  pub sized : 27 * count ≤ length c
-  pub room : 24 * count ≤ length values

@@ -38,7 +38,7 @@ impl From<Result<u32, Refusal>> for GloamWritten {
     }
 }
 
-// gloam_read: 0 and the length of the message, or the refusal and 0.
+// gloam_read: 0 and the length of the message, or the refusal and 0. A struct beside GloamWritten, as in the header.
 #[repr(C)]
 #[derive(Clone, Copy)]
 pub struct GloamRead {

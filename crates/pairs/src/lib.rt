@@ -108,7 +108,8 @@ impl Walk {
         (self.low + on, self.high + on)
     }
 
-    // Gathers the values of the pairs.
+    // Gathers the values of the pairs. Not one function with `fill`: one reads where the other writes, and a closure for
+    // both would be longer than either.
     pub fn gather(self, heard: Heard, out: &mut [u8])
         requires message { self.l ≡ heard.l }
         requires room { coded_bits heard.l ≤ length out.old }
