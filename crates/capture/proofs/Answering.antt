@@ -16,7 +16,7 @@ use Rattle.buffers.specs.Buffers.{Appends}
 use Rattle.capture.specs.Parts.{FieldFits, Writable}
 use Rattle.buffers.proofs.Appending.{appends_then, appends_length, appends_front}
 use Rattle.capture.proofs.Packets.{length-field, length-capture_of}
-use Rattle.capture.proofs.Heads.{tail_part}
+use Rattle.capture.proofs.Heads.{fields_part}
 use Rattle.capture.proofs.Whole.{whole_size, length-marks_in}
 use Rattle.capture.proofs.ReadRefusals.{ReadTaken, read_taken, marks_part}
 
@@ -59,17 +59,17 @@ module _ (c marks values : List ℕ) (l : ℕ) (z : read_refusal c (length marks
   marks_fit_in = omega (arith, part_size, taken.marks_room)
 
   -- what follows the marks has so many fields
-  fields_in : length (take (length c - (11 + l)) (drop (11 + l) c)) / 27 ≡ l + 4
-  fields_in = omega (arith, ap length (tail_part (11 + l) c), length-drop (11 + l) c, taken_size)
+  fields_in : length (take (119 + 28 * l - (11 + l)) (drop (11 + l) c)) / 27 ≡ l + 4
+  fields_in = omega (arith, ap length (fields_part l c taken_size), length-drop (11 + l) c, taken_size)
 
-  pub values_fit_in : 24 * (length (take (length c - (11 + l)) (drop (11 + l) c)) / 27) ≤ length values
+  pub values_fit_in : 24 * (length (take (119 + 28 * l - (11 + l)) (drop (11 + l) c)) / 27) ≤ length values
   values_fit_in = omega (arith, fields_in, taken.values_room)
 
   pub reads_done :
       {marks' values' : List ℕ} {next : ℕ} → Appends marks 0 (take (11 + l - 7) (drop 7 c)) marks' next
       → values'
-      ≡ values_from (length (take (length c - (11 + l)) (drop (11 + l) c)) / 27) (take (length c - (11 + l)) (drop (11 + l) c))
-      ++ drop (24 * (length (take (length c - (11 + l)) (drop (11 + l) c)) / 27)) values
+      ≡ values_from (length (take (119 + 28 * l - (11 + l)) (drop (11 + l) c)) / 27) (take (119 + 28 * l - (11 + l)) (drop (11 + l) c))
+      ++ drop (24 * (length (take (119 + 28 * l - (11 + l)) (drop (11 + l) c)) / 27)) values
       → Reads c marks values marks' values' (Ok l)
   unfolding values_in
   reads_done p q =
@@ -79,5 +79,5 @@ module _ (c marks values : List ℕ) (l : ℕ) (z : read_refusal c (length marks
         refusal = sym z;
         told = e ∙ rw test;
         marks_bytes = appends_front (l + 4) p part_size (omega (arith, taken.marks_room)) ∙ rw (test, ← e) (ap (λ (x : List ℕ). x ++ drop (l + 4) marks) (marks_part l c));
-        values_bytes = q ∙ rw fields_in (rw (test, ← e) (ap (λ (x : List ℕ). values_from (l + 4) x ++ drop (24 * (l + 4)) values) (tail_part (11 + l) c ∙ ap (λ (n : ℕ). drop n c) place)));
+        values_bytes = q ∙ rw fields_in (rw (test, ← e) (ap (λ (x : List ℕ). values_from (l + 4) x ++ drop (24 * (l + 4)) values) (fields_part l c taken_size ∙ ap (λ (n : ℕ). drop n c) place)));
       }

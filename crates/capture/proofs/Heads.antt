@@ -40,6 +40,10 @@ same_equal (x ∷ xs) (y ∷ ys) e =
 pub tail_part : (n : ℕ) (c : List ℕ) → take (length c - n) (drop n c) ≡ drop n c
 tail_part n c = take_all (length c - n) (drop n c) (omega (arith, length-drop n c))
 
+-- what follows the marks reaches to the end of a capture
+pub fields_part : (l : ℕ) (c : List ℕ) → length c ≡ 119 + 28 * l → take (119 + 28 * l - (11 + l)) (drop (11 + l) c) ≡ drop (11 + l) c
+fields_part l c size = take_all (119 + 28 * l - (11 + l)) (drop (11 + l) c) (omega (arith, length-drop (11 + l) c, size))
+
 -- a head is judged byte by byte
 head_same : (c : List ℕ) (a b d : ℕ) → 3 ≤ length c → same_bytes (take 3 c) (a ∷ b ∷ d ∷ []) ≡ (eqb (get_or c 0 0) a && (eqb (get_or c 1 0) b && (eqb (get_or c 2 0) d && true)))
 unfolding same_bytes

@@ -1,7 +1,7 @@
 -- The loops over fields of tag 03: storing them one after another, and taking their values out; a field is its head and then its value.
 -- Assumes nothing.
 use mathlib.Core.List.{List, [], ◌∷◌, ◌++◌}
-use mathlib.Core.Path.{◌≡◌, refl, ◌∙◌}
+use mathlib.Core.Path.{◌≡◌, refl, ap, ◌∙◌}
 use Prim.Native.Nat.{ℕ, ◌+◌, ◌*◌, ◌-◌, ◌/◌, ◌%◌, ◌≤◌, ◌<◌}
 use native.Mathlib.Omega.{arith}
 use lib.ListN.{length, take, drop, length-drop}
@@ -9,7 +9,7 @@ use lib.Seq.{length-take-le}
 use Rattle.capture.specs.Capture.{field, packets}
 use Rattle.capture.specs.Reading.{values_from}
 use Rattle.buffers.specs.Buffers.{Appends}
-use Rattle.capture.specs.Parts.{FieldFits}
+use Rattle.capture.specs.Parts.{FieldFits, head_of}
 use Rattle.buffers.proofs.Appending.{appends_none, appends_then, appends_length, appends_front}
 use Rattle.capture.proofs.Packets.{packets_more, values_from_more, length-packets, length-values_from}
 
@@ -18,6 +18,12 @@ pub appends_field :
     → Appends old at (tag ∷ length value / 256 ∷ length value % 256 ∷ []) mid next → Appends mid next value new end → Appends old at (field tag value) new end
 unfolding field
 appends_field p q = appends_then p q
+
+-- a head that says the value's size, and then the value, are the field
+pub headed_field :
+    {old mid new value head : List ℕ} {tag size at next end : ℕ}
+    → head ≡ head_of tag size → size ≡ length value → Appends old at head mid next → Appends mid next value new end → Appends old at (field tag value) new end
+headed_field {tag = tag} said same p q = appends_field (rw (← (said ∙ ap (head_of tag) same)) p) q
 
 -- the part from 24 s to 24 s + 24
 width : (from : ℕ) → from + 24 - from ≡ 24

@@ -49,7 +49,7 @@ fn is_whole(l: usize, c: &[u8]) -> bool
     if !is_head(&c[4..], MARKS, l + 4) {
         return false;
     }
-    after_marks(&c[11 + l..])
+    after_marks(&c[11 + l..119 + 28 * l])
 }
 
 // The length in a capture that can be read; or the first refusal that holds of 10, 1, 10, 5, 3.

@@ -1,8 +1,9 @@
 -- The steps of the way from a coded bit to its place, as the functions give them: each from the relation that it computes, and all of them together.
 -- Assumes nothing.
-use Prim.Native.Nat.{ℕ, ◌+◌, ◌*◌, ◌<◌}
+use Prim.Native.Nat.{ℕ, ◌+◌, ◌*◌, ◌≤◌, ◌<◌}
+use native.Mathlib.Nat.{mul-le-mul}
 use native.Mathlib.Omega.{arith}
-use Rattle.interleave.specs.Interleave.{coded_bits, extension, Placed, Length, Shifted, Ordered, Carried}
+use Rattle.interleave.specs.Interleave.{coded_bits, extension, group_length, Placed, Length, Shifted, Ordered, Carried}
 use Rattle.interleave.proofs.Lies.{Lies, sub_packet_lies}
 use Rattle.interleave.proofs.Order.{order_lies, lies_order}
 use Rattle.interleave.proofs.Carries.{Carries, symbol_carries, carries_below}
@@ -46,3 +47,7 @@ pub placed_last : {l s o m : ℕ} (i : ℕ) → i < 48 → Lies (extension l) i 
 placed_last {l} i h lies carries =
     let shifted = shifted_last l i h in
     placed_placed_at (record { coded = shifted.coded; lies = rw shifted.index lies; carries = carries })
+
+-- group g starts at most so far on, as the longest message has groups of 247
+pub group-start_below : {l : ℕ} (g n : ℕ) → Length l → g ≤ n → g * group_length (extension l) ≤ n * 247
+group-start_below {l} g n long h = mul-le-mul {n₁ = g} {m₁ = group_length (extension l)} {n₂ = n} {m₂ = 247} h (omega (arith, long.high))

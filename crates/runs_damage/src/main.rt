@@ -50,7 +50,15 @@ fn heard(payload: &[u8; 186], one: u8, zero: u8) -> [[u8; 24]; 24] {
         },
         frame.as_flattened_mut(),
     );
-    runs_show::hear(&frame, one, zero)
+    let mut values = [[0; 24]; 24];
+    runs_show::hear(
+        24,
+        frame.as_flattened(),
+        one,
+        zero,
+        values.as_flattened_mut(),
+    );
+    values
 }
 
 // Puts value v on the wrong side: `one` where a coded 0 was heard, else `zero`.
@@ -147,7 +155,8 @@ fn lost(rt: &impl Print, sent: &[u8; 20]) -> io::Result<()> {
 }
 
 fn main(rt: HostRuntime) -> io::Result<()> {
-    let message = runs_show::some_message::<20>();
+    let mut message = [0; 20];
+    runs_show::some_message(&mut message);
     wrong_bits(&rt, &message)?;
     wrong_sides(&rt, &message)?;
     least_values(&rt, &message)?;

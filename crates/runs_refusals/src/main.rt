@@ -117,10 +117,12 @@ fn clean<const L: usize, const P: usize>(rt: &impl Print, mode: u64) -> io::Resu
     requires message { L ≤ 255 }
     requires packets { P ≤ 259 }
 {
-    let message = runs_show::some_message::<L>();
+    let mut message = [0; L];
+    runs_show::some_message(&mut message);
     let mut frame = [[0; 36]; P];
     build_case(rt, L as u64, mode, &message, frame.as_flattened_mut())?;
-    let values = runs_show::hear(&frame, 1, 255);
+    let mut values = [[0; 24]; P];
+    runs_show::hear(P, frame.as_flattened(), 1, 255, values.as_flattened_mut());
     let before = [0; L];
     let mut back = before;
     recover_asked(
@@ -165,7 +167,9 @@ const VECTOR: [&[u8; 36]; 24] = [
 // The whole vector, heard clean; its PSI is 16.
 fn vector(rt: &impl Print) -> io::Result<()> {
     let frame = VECTOR.map(|burst| burst.map(|digit| u8::from(digit == b'1')));
-    recover_20(rt, ", Q.Z.5", &[1; 24], &runs_show::hear(&frame, 1, 255))
+    let mut values = [[0; 24]; 24];
+    runs_show::hear(24, frame.as_flattened(), 1, 255, values.as_flattened_mut());
+    recover_20(rt, ", Q.Z.5", &[1; 24], &values)
 }
 
 fn main(rt: HostRuntime) -> io::Result<()> {

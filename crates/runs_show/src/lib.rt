@@ -2,7 +2,7 @@
 // answered.
 #![tactic(auto)]
 
-ghost use Rattle.std.specs.Prelude.{◌≤◌};
+ghost use Rattle.std.specs.Prelude.{◌*◌, ◌≤◌, length};
 
 use refusals::Refusal;
 use std::io;
@@ -35,11 +35,13 @@ pub fn show_back(rt: &impl Print, sent: &[u8], before: &[u8], back: &[u8]) -> io
     }
 }
 
-// A message in which the bytes differ: byte i is 37 i + 3, modulo 256.
-pub fn some_message<const L: usize>() -> [u8; L]
-    requires { L ≤ 256 }
+// Makes a message in which the bytes differ: byte i is 37 i + 3, modulo 256.
+pub fn some_message(out: &mut [u8])
+    requires { length out.old ≤ 256 }
 {
-    std::array::from_fn(|i| ((37 * i + 3) % 256) as u8)
+    for (i, byte) in out.iter_mut().enumerate() {
+        *byte = ((37 * i + 3) % 256) as u8;
+    }
 }
 
 // The 24 values of a burst, whose pilot is left out: a 1 is heard as `one`, a 0 as `zero`.
@@ -50,7 +52,15 @@ pub fn hear_burst(burst: &[u8; 36], one: u8, zero: u8) -> [u8; 24] {
     })
 }
 
-// The values of all bursts of a frame.
-pub fn hear<const P: usize>(frame: &[[u8; 36]; P], one: u8, zero: u8) -> [[u8; 24]; P] {
-    std::array::from_fn(|s| hear_burst(&frame[s], one, zero))
+// The values of the first bursts of a frame, so many as there are packets, to the start of `values`.
+pub fn hear(packets: usize, frame: &[u8], one: u8, zero: u8, values: &mut [u8])
+    requires most { packets ≤ 259 }
+    requires frame_holds { 36 * packets ≤ length frame.now }
+    requires values_hold { 24 * packets ≤ length values.old }
+{
+    let (bursts, _) = frame.as_chunks::<36>();
+    let (heard, _) = values.as_chunks_mut::<24>();
+    for s in 0..packets {
+        heard[s] = hear_burst(&bursts[s], one, zero);
+    }
 }

@@ -24,7 +24,9 @@ fn clean<const L: usize, const P: usize>(message: &[u8; L]) -> [[u8; 24]; P]
 {
     let mut frame = [[0; 36]; P];
     let _ = uplink::build(L as u64, 1, message, frame.as_flattened_mut());
-    runs_show::hear(&frame, 1, 255)
+    let mut values = [[0; 24]; P];
+    runs_show::hear(P, frame.as_flattened(), 1, 255, values.as_flattened_mut());
+    values
 }
 
 // The values between two frames: where they differ, they are in turn those of a and of b. Answers also in how many
@@ -79,7 +81,8 @@ fn tie<const L: usize, const P: usize>(rt: &impl Print, at: usize) -> io::Result
     requires packets { P ≤ 259 }
     requires inside { at + 1 < L }
 {
-    let a = runs_show::some_message::<L>();
+    let mut a = [0; L];
+    runs_show::some_message(&mut a);
     let mut b = a;
     lay_over(&mut b, at);
     print!(rt;

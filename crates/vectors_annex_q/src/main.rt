@@ -3,6 +3,8 @@
 // listing after whitening and Table Q.Z.19.
 #![tactic(auto)]
 
+ghost use Rattle.std.specs.Prelude.{◌≤◌, ◌<◌};
+
 use interleave::Coded;
 use std::io;
 
@@ -13,6 +15,9 @@ const PSI: u8 = 0x10;
 const MPDU: [u8; 16] = [
     0x02, 0x42, 0x22, 0x02, 0xA7, 0x3D, 0x78, 0x56, 0x34, 0x12, 0x15, 0x03, 0x9F, 0x07, 0xFC, 0x0F,
 ];
+
+// The hexadecimal digits.
+const DIGITS: &[u8; 16] = b"0123456789ABCDEF";
 
 // The bits of bytes in order.
 fn bits_of<const N: usize>(bytes: [u8; N]) -> [[u8; 8]; N] {
@@ -41,19 +46,26 @@ fn payload(header_crc: u8, payload_crc: u8) -> [u8; 186] {
     out
 }
 
-// Writes bits as they are, 0 or 1.
-fn print_bits(rt: &impl Print, bits: &[u8]) -> io::Result<()> {
-    for bit in bits {
-        print!(rt; "{bit}")?;
-    }
-    Ok(())
+// Writes bits as they are, 0 or 1, all at once: formatted one by one, the digits cost more than all the rest of the
+// program.
+fn print_bits<const N: usize>(rt: &impl Print, bits: &[u8; N]) -> io::Result<()>
+    requires { N ≤ 186 }
+{
+    rt.write_all(&bits.map(|bit| b'0' + bit % 2))
+}
+
+// Four bits as a number, the first highest.
+fn four(bits: &[u8; 4]) -> u8
+    ensures { result < 16 }
+{
+    let [a, b, c, d] = *bits;
+    8 * (a % 2) + 4 * (b % 2) + 2 * (c % 2) + d % 2
 }
 
 // Writes bits as hexadecimal digits, four to a digit.
 fn print_hex(rt: &impl Print, bits: &[u8]) -> io::Result<()> {
-    for four in bits.as_chunks::<4>().0 {
-        let digit = four.iter().fold(0u8, |digit, bit| digit << 1 | bit & 1);
-        print!(rt; "{digit:X}")?;
+    for bits in bits.as_chunks::<4>().0 {
+        rt.write_all(&[DIGITS[usize::from(four(bits))]])?;
     }
     Ok(())
 }

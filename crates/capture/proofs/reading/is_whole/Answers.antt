@@ -1,12 +1,12 @@
 -- `capture::reading::is_whole` meets its contract: size and heads decide (`Whole`). Assumes nothing.
 use mathlib.Core.List.{List}
 use mathlib.Core.Path.{◌≡◌, sym, ap, ◌∙◌}
-use Prim.Native.Nat.{ℕ, ◌+◌, ◌-◌, ◌/◌}
+use Prim.Native.Nat.{ℕ, ◌+◌, ◌-◌, ◌*◌, ◌/◌}
 use native.Mathlib.Omega.{arith}
 use lib.ListN.{length, take, drop, length-drop}
 use Rattle.capture.specs.Reading.{same_bytes}
 use Rattle.capture.specs.Parts.{head_of}
-use Rattle.capture.proofs.Heads.{tail_part}
+use Rattle.capture.proofs.Heads.{fields_part, tail_part}
 use Rattle.capture.proofs.Whole.{whole_wrong_size, whole_wrong_head, whole-heads}
 use Rattle.capture.proofs.reading.is_whole.Goals as goal
 
@@ -26,8 +26,9 @@ pub returns : goal.returns
 returns c =
     let l = c.args.l in
     let bytes = c.args.c.now in
-    let count : length (take (length bytes - (11 + l)) (drop (11 + l) bytes)) / 27 ≡ l + 4 =
-    omega (arith, ap length (tail_part (11 + l) bytes), length-drop (11 + l) bytes) in
+    let size : length bytes ≡ 119 + 28 * l = omega arith in
+    let count : length (take (119 + 28 * l - (11 + l)) (drop (11 + l) bytes)) / 27 ≡ l + 4 =
+    omega (arith, ap length (fields_part l bytes size), length-drop (11 + l) bytes, size) in
     c.after_marks.ensures
-    ∙ rw (count, tail_part (11 + l) bytes)
+    ∙ rw (count, fields_part l bytes size)
     (sym (whole-heads c.requires (omega arith) (head-lent l bytes ∙ sym c.is_head.ensures ∙ c.if-not-is_head.false)))
