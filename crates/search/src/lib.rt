@@ -18,7 +18,7 @@ fn turn(row: [u16; 64], a: u8, b: u8, c: u8, kept: &mut [u16; 64]) -> [u16; 64]
 {
     let weighed = step::weigh(a, b, c);
     let moves = step::sums(row, weighed);
-    step::choices(moves, kept);
+    step::choices(moves, kept, 0);
     step::minima(moves)
 }
 

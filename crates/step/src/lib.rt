@@ -118,13 +118,15 @@ pub fn minima(m: Moves) -> [u16; 64]
     next
 }
 
-// The decisions kept in 64 words, moved up by one bit, with this step's in the lowest.
-pub fn choices(m: Moves, kept: &mut [u16; 64])
-    requires { Within m.zero m.one }
-    ensures { Chosen 64 m.zero m.one kept.old 0 kept.new }
+// The decisions kept in the 64 words from a place on, moved up by one bit, with this step's in the lowest. The others
+// are kept.
+pub fn choices(m: Moves, kept: &mut [u16], place: usize)
+    requires within { Within m.zero m.one }
+    requires place_in_bounds { place + 64 ≤ length kept.old }
+    ensures { Chosen 64 m.zero m.one kept.old place kept.new }
 {
-    for (p, word) in kept.iter_mut().enumerate() {
-        *word = *word % 32768 * 2 + choice(m.zero[p], m.one[p]);
+    for p in 0..64 {
+        kept[place + p] = kept[place + p] % 32768 * 2 + choice(m.zero[p], m.one[p]);
     }
 }
 
