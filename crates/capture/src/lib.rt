@@ -28,6 +28,7 @@ pub fn read_back(capture: &[u8], marks: &mut [u8], values: &mut [u8]) -> Result<
 {
     let l = reading::may_read(capture, marks.len(), values.len())?;
     buffers::copy_in(&capture[7..11 + l], marks, 0);
+    // As many fields as the length asks for, as where they were judged.
     reading::take_values(&capture[11 + l..119 + 28 * l], values);
     Ok(l as u32)
 }

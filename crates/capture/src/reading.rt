@@ -38,7 +38,8 @@ fn after_marks(c: &[u8]) -> bool
     true
 }
 
-// The form of all that follows the first field, including the end.
+// The form of all that follows the first field, including the end. As many fields are looked at as the length asks for,
+// and not as many as there are bytes, so that the size alone judges what stands behind them.
 fn is_whole(l: usize, c: &[u8]) -> bool
     requires { Opening l c.now }
     ensures { result ≡ whole l c.now }

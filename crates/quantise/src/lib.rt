@@ -77,7 +77,8 @@ fn value(b: u32) -> u8
     (r as u8).wrapping_neg()
 }
 
-// Writes the values of 24 numbers to the start of `values`, and gives the greatest of their bits without signs.
+// Writes the values of 24 numbers to the start of `values`, and gives the greatest of their bits without signs. By
+// number and not over the slice, so that the code says how many are looked at, and an edit can say another number.
 fn take_in(numbers: &[f32], values: &mut [u8]) -> u32
     requires { Taken numbers.now values.old }
     ensures { TookIn numbers.now values.old values.new result }

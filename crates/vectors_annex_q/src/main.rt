@@ -62,7 +62,7 @@ fn four(bits: &[u8; 4]) -> u8
     8 * (a % 2) + 4 * (b % 2) + 2 * (c % 2) + d % 2
 }
 
-// Writes bits as hexadecimal digits, four to a digit.
+// Writes bits as hexadecimal digits, four to a digit. From a table, for the same reason.
 fn print_hex(rt: &impl Print, bits: &[u8]) -> io::Result<()> {
     for bits in bits.as_chunks::<4>().0 {
         rt.write_all(&[DIGITS[usize::from(four(bits))]])?;

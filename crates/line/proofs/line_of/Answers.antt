@@ -1,6 +1,6 @@
 -- `line::line_of` meets its contract: with its line feed it is the line of what was recovered, or of the refusal.
 -- Assumes nothing.
-use Rattle.std.proofs.Common.{rules, ap, ◌∙◌, List, ℕ, [], ◌∷◌, ◌++◌}
+use Rattle.std.proofs.Common.{ap, ◌∙◌, List, ℕ, [], ◌∷◌, ◌++◌}
 use Rattle.line.proofs.Appending.{ok_head_line}
 use Rattle.line.proofs.Reporting.{recounted_line}
 use Rattle.line.proofs.line_of.Goals as goal
